@@ -1,0 +1,9 @@
+pub mod OnPairs
+pub mod OnCounts
+pub mod OnGrids
+pub mod OnCalls
+pub mod OnCells
+pub mod OnGridBook
+pub mod OnRuns
+pub mod OnLaws
+pub mod OnReadings

@@ -1,0 +1,4 @@
+pub mod Grid
+pub mod Calls
+pub mod Cells
+pub mod Runs

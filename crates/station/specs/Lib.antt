@@ -1,0 +1,5 @@
+pub mod Numbers
+pub mod Refusals
+pub mod Elements
+pub mod Calendar
+pub mod Sheets
