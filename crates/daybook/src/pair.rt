@@ -31,6 +31,18 @@ impl Pair {
         Ok(Pair { day, element })
     }
 
+    pub fn day(self) -> u8
+        ensures { λ r. ⌜ r ≡ self .day ⌝ }
+    {
+        self.day
+    }
+
+    pub fn element(self) -> Element
+        ensures { λ r. ⌜ r ≡ self .element ⌝ }
+    {
+        self.element
+    }
+
     // Declines a value outside the element's range.
     pub fn check_value(self, value: i32) -> Result<(), Refusal>
         ensures { λ r. ⌜ r ≡ unless (value-refusal (pos (element-number (self .element))) value) tt ⌝ }

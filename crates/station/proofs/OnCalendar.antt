@@ -4,9 +4,9 @@ use mathlib.Core.Bool.{Bool, true, false, cond, _&&_}
 use mathlib.Core.List.{List, [], _∷_}
 use Prim.Native.Nat.{ℕ, zero, suc, _-_, _≤_, _<_}
 use native.Mathlib.Omega.{arith}
-use lib.Dec.{eqb, leb}
+use lib.Dec.{eqb, leb, lit≤}
 use lib.ListN.{length, getD}
-use Rattle.std.proofs.shelf.Tests.{and-parts, leb-true, cond-false}
+use Rattle.std.proofs.shelf.Tests.{and-parts, leb-true, cond-false, cond-both}
 use Rattle.station.specs.Calendar.{common-lengths, is-leap, month-length}
 
 pub leap-february : (year month : ℕ) → month ≡ 2 → is-leap year ≡ true → 29 ≡ month-length year month
@@ -33,3 +33,16 @@ within-at low high (x ∷ rest) (suc k) h l =
 
 pub common-bounds : (month : ℕ) → 1 ≤ month → month ≤ 12 → (28 ≤ getD common-lengths (month - 1) 0) × (getD common-lengths (month - 1) 0 ≤ 31)
 common-bounds month from to = within-at 28 31 common-lengths (month - 1) refl (omega arith)
+
+at-most : (low high : ℕ) (xs : List ℕ) (k : ℕ) → each-within low high xs ≡ true → getD xs k 0 ≤ high
+at-most low high [] k h = omega arith
+at-most low high (x ∷ rest) zero h =
+    let p = and-parts (leb low x && leb x high) (each-within low high rest) h in
+    leb-true x high (and-parts (leb low x) (leb x high) (p .0) .1)
+at-most low high (x ∷ rest) (suc k) h = at-most low high rest k (and-parts (leb low x && leb x high) (each-within low high rest) h .1)
+
+-- no month has more days, whatever its number
+pub length-most : (year month : ℕ) → month-length year month ≤ 31
+unfolding month-length
+length-most year month =
+    cond-both (eqb month 2 && is-leap year) 29 (getD common-lengths (month - 1) 0) (λ n. n ≤ 31) (λ _. lit≤ tt) (λ _. at-most 28 31 common-lengths (month - 1) refl)

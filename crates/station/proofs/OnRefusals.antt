@@ -47,11 +47,11 @@ pub unless-err : {X : Type 0} (o : Option Refusal) (r : Refusal) (y : X) → Err
 unless-err None r y h = cc
 unless-err (Some s) r y h = cc
 
--- where one check after the other did not decline, neither did
-pub none-first : (o p : Option Refusal) → or-else o p ≡ None → o ≡ None
+-- where one check after the other says nothing, neither says anything
+pub none-first : {X : Type 0} (o p : Option X) → or-else o p ≡ None → o ≡ None
 none-first None p h = refl
 none-first (Some r) p h = cc
 
-pub none-second : (o p : Option Refusal) → or-else o p ≡ None → p ≡ None
+pub none-second : {X : Type 0} (o p : Option X) → or-else o p ≡ None → p ≡ None
 none-second None p h = h
 none-second (Some r) p h = cc

@@ -2,7 +2,9 @@
 use mathlib.Core.Path.{_≡_, refl, sym, ap, _∙_}
 use mathlib.Core.Bool.{Bool, true, false, _&&_}
 use native.Mathlib.Omega.{arith}
-use lib.IntN.{ℤ, pos}
+use lib.IntN.{ℤ, pos, negsuc, natAbs}
+use Prim.Native.Nat.{_≤_}
+use Rattle.std.proofs.shelf.Ways.{tells}
 use Rattle.std.proofs.shelf.Tests.{and-left, and-right}
 use Rattle.std.specs.declared.option.Option.{Option}
 use Rattle.std.specs.declared.option.Option.the-variants.{Some, None}
@@ -11,9 +13,13 @@ use Rattle.station.specs.declared.wind.WindIndicator.{WindIndicator}
 use Rattle.station.specs.declared.wind.WindIndicator.the-variants.{Estimated, Measured}
 use Rattle.station.specs.Numbers.{Bearing}
 use Rattle.station.specs.Refusals.{requiring}
-use Rattle.station.specs.Calendar.{is-month}
+use Rattle.station.specs.Calendar.{is-year, is-month-number, is-month}
 use Rattle.station.specs.Sheets.{is-station, indicators, indicator-number, indicator-numbered, is-indicator, sheet-refusal}
 use Rattle.station.proofs.OnNumbers.{first-bears}
+
+pub station-bounds : (n : ℤ) → is-station n ≡ true → (1000 ≤ natAbs n) × (natAbs n ≤ 98999) × (pos (natAbs n) ≡ n)
+station-bounds (pos n) h = (grind (arith, tells), grind (arith, tells), refl)
+station-bounds (negsuc n) h = absurd (grind arith)
 
 module _ (station year month iw : ℤ) where
   pub wrong-station : is-station station ≡ false → sheet-refusal station year month iw ≡ Some Sheet
@@ -33,6 +39,10 @@ module _ (station year month iw : ℤ) where
   pub right-sheet : (w : WindIndicator) → is-station station ≡ true → is-month year month ≡ true → indicator-numbered iw ≡ Some w → sheet-refusal station year month iw ≡ None
   unfolding sheet-refusal
   right-sheet w s m h = rw (s, m, h)
+
+pub all-right : (station year month iw : ℤ) → is-station station ≡ true → is-year year ≡ true → is-month-number month ≡ true → is-indicator iw ≡ true → sheet-refusal station year month iw ≡ None
+unfolding sheet-refusal
+all-right station year month iw s y m i = rw (s, y, m, i)
 
 indicator-of : (w : WindIndicator) → indicator-numbered (pos (indicator-number w)) ≡ Some w
 unfolding indicator-numbered

@@ -29,9 +29,15 @@ is-leap year = eqb (year % 4) 0 && (not (eqb (year % 100) 0) || eqb (year % 400)
 unfoldable pub month-length : ℕ → ℕ → ℕ
 month-length year month = cond (eqb month 2 && is-leap year) 29 (getD common-lengths (month - 1) 0)
 
+abbrev pub is-year : ℤ → Bool
+is-year n = within (pos first-year) (pos last-year) n
+
+abbrev pub is-month-number : ℤ → Bool
+is-month-number n = within (pos 1) (pos (length common-lengths)) n
+
 -- a year and a month that there are
 abbrev pub is-month : ℤ → ℤ → Bool
-is-month year month = within (pos first-year) (pos last-year) year && within (pos 1) (pos (length common-lengths)) month
+is-month year month = is-year year && is-month-number month
 
 abbrev pub month-refusal : ℤ → ℤ → Option Refusal
 month-refusal year month = requiring (is-month year month) Sheet

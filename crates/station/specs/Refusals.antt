@@ -7,7 +7,7 @@ use Rattle.std.specs.declared.option.Option.the-variants.{Some, None}
 use Rattle.std.specs.declared.result.Result.{Result}
 use Rattle.std.specs.declared.result.Result.the-variants.{Ok, Err}
 use Rattle.station.specs.declared.refusal.Refusal.{Refusal}
-use Rattle.station.specs.declared.refusal.Refusal.the-variants.{Sheet, Normal, Day, Element, Value, Full, Empty, Room, Month}
+use Rattle.station.specs.declared.refusal.Refusal.the-variants.{Sheet, Normal, Day, Element, Value, Full, Empty, Room, Month, Malformed}
 
 abbrev pub refusal-number : Refusal → ℕ
 refusal-number Sheet = 1
@@ -19,13 +19,14 @@ refusal-number Full = 6
 refusal-number Empty = 7
 refusal-number Room = 8
 refusal-number Month = 9
+refusal-number Malformed = 18
 
 -- the refusal where the test fails, and none where it passes
 abbrev pub requiring : Bool → Refusal → Option Refusal
 requiring passes r = cond passes None (Some r)
 
--- the first of two checks that declines
-abbrev pub or-else : Option Refusal → Option Refusal → Option Refusal
+-- what the first of two checks says, and where it says nothing the second
+abbrev pub or-else : {X : Type 0} → Option X → Option X → Option X
 or-else (Some r) later = Some r
 or-else None later = later
 

@@ -3,7 +3,7 @@ ghost use mathlib.Core.Path.{_≡_};
 ghost use Prim.Native.Nat.{_≤_};
 ghost use lib.IntN.{pos};
 ghost use Rattle.station.specs.Refusals.{Answered};
-ghost use Rattle.station.specs.Calendar.{is-leap, month-length, month-refusal};
+ghost use Rattle.station.specs.Calendar.{is-year, is-month-number, is-leap, month-length, month-refusal};
 use crate::refusal::Refusal;
 
 const FIRST_YEAR: i32 = 1950;
@@ -34,10 +34,7 @@ impl CalendarMonth {
     pub fn check(year: i32, month: i32) -> Result<CalendarMonth, Refusal>
         ensures { λ r. ⌜ Answered (month-refusal year month) r (λ m. (pos (m .year) ≡ year) × (pos (m .month) ≡ month)) ⌝ }
     {
-        if year < FIRST_YEAR || year > LAST_YEAR {
-            return Err(Refusal::Sheet);
-        }
-        if month < 1 || month > MONTHS {
+        if !is_year(year) || !is_month_number(month) {
             return Err(Refusal::Sheet);
         }
         Ok(CalendarMonth {
@@ -69,6 +66,18 @@ impl CalendarMonth {
         }
         COMMON_LENGTHS[(self.month - 1) as usize]
     }
+}
+
+pub fn is_year(number: i32) -> bool
+    ensures { λ r. ⌜ r ≡ is-year number ⌝ }
+{
+    FIRST_YEAR <= number && number <= LAST_YEAR
+}
+
+pub fn is_month_number(number: i32) -> bool
+    ensures { λ r. ⌜ r ≡ is-month-number number ⌝ }
+{
+    1 <= number && number <= MONTHS
 }
 
 fn is_leap(year: u16) -> bool

@@ -22,6 +22,8 @@ pub enum Refusal {
     Room = 8,
     // a report of another month or year than the bulletin's
     Month = 9,
+    // a line or field of a house file that does not have the form of one
+    Malformed = 18,
 }
 
 impl Refusal {

@@ -3,7 +3,7 @@ ghost use mathlib.Core.Path.{_≡_};
 ghost use Prim.Native.Nat.{_≤_};
 ghost use lib.IntN.{pos};
 ghost use Rattle.station.specs.Refusals.{Answered};
-ghost use Rattle.station.specs.Sheets.{sheet-refusal, indicator-number};
+ghost use Rattle.station.specs.Sheets.{is-station, sheet-refusal, indicator-number};
 use crate::calendar::CalendarMonth;
 use crate::refusal::Refusal;
 use crate::wind::WindIndicator;
@@ -26,7 +26,7 @@ impl Sheet {
     pub fn check(station: i32, year: i32, month: i32, iw: i32) -> Result<Sheet, Refusal>
         ensures { λ r. ⌜ Answered (sheet-refusal station year month iw) r (λ s. (pos (s .station) ≡ station) × (pos (s .calendar .year) ≡ year) × (pos (s .calendar .month) ≡ month) × (pos (indicator-number (s .wind)) ≡ iw)) ⌝ }
     {
-        if station < FIRST_STATION || station > LAST_STATION {
+        if !is_station(station) {
             return Err(Refusal::Sheet);
         }
         let calendar = CalendarMonth::check(year, month)?;
@@ -57,4 +57,10 @@ impl Sheet {
     {
         self.wind
     }
+}
+
+pub fn is_station(number: i32) -> bool
+    ensures { λ r. ⌜ r ≡ is-station number ⌝ }
+{
+    FIRST_STATION <= number && number <= LAST_STATION
 }

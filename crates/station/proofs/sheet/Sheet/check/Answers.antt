@@ -1,4 +1,4 @@
-use mathlib.Core.Path.{_≡_, refl, sym, _∙_}
+use mathlib.Core.Path.{_≡_, refl, sym, ap, _∙_}
 use mathlib.Core.Bool.{true, false}
 use native.Mathlib.Omega.{arith}
 use lib.IntN.{pos, natAbs}
@@ -10,19 +10,14 @@ use Rattle.std.proofs.shelf.Results.{err-from-errBy}
 use Rattle.station.specs.Calendar.{is-month}
 use Rattle.station.specs.Sheets.{is-station}
 use Rattle.station.proofs.OnRefusals.{declines, accepts, declined, accepted, failed, failed-with, hands-on, passed}
-use Rattle.station.proofs.OnSheets.{wrong-station, wrong-month, wrong-indicator, right-sheet}
+use Rattle.station.proofs.OnSheets.{wrong-station, wrong-month, wrong-indicator, right-sheet, station-bounds}
 use Rattle.station.proofs.sheet.Sheet.check.Needs as need
-use Rattle.station.proofs.sheet.Sheet.check.Needs.{then-station-lt-FIRST-STATION·by·then-station-lt-FIRST-STATION, then-station-lt-FIRST-STATION·by·else-station-lt-FIRST-STATION·then-station-gt-LAST-STATION}
 
-pub returns-then-station-lt-FIRST-STATION : need.returns-then-station-lt-FIRST-STATION
-returns-then-station-lt-FIRST-STATION c =
+pub returns-then-not-is-station : need.returns-then-not-is-station
+returns-then-not-is-station c =
     let f = c .fits .station in
-    let wrong : is-station (c .args .station) ≡ false =
-    elim (c .then-station-lt-FIRST-STATION .came) [
-      | then-station-lt-FIRST-STATION·by·then-station-lt-FIRST-STATION w ↦ let t = simp toZ-ofZ at (w .if-station-lt-FIRST-STATION .taken) in grind (arith, tells)
-      | then-station-lt-FIRST-STATION·by·else-station-lt-FIRST-STATION·then-station-gt-LAST-STATION w ↦ let t = simp toZ-ofZ at (w .if-station-gt-LAST-STATION .taken) in grind (arith, tells)
-    ] in
-    declines _ _ _ (wrong-station (c .args .station) (c .args .year) (c .args .month) (c .args .iw) wrong)
+    let wrong = simp toZ-ofZ at (c .is-station .ensures) in
+    declines _ _ _ (wrong-station (c .args .station) (c .args .year) (c .args .month) (c .args .iw) (sym wrong ∙ c .if-not-is-station .taken))
 
 pub returns-in-Break-calendar : need.returns-in-Break-calendar
 returns-in-Break-calendar c =
@@ -46,12 +41,20 @@ returns c =
     let fy = c .fits .year in
     let fm = c .fits .month in
     let fi = c .fits .iw in
-    let low = simp toZ-ofZ at (c .if-station-lt-FIRST-STATION .left) in
-    let high = simp toZ-ofZ at (c .if-station-gt-LAST-STATION .left) in
-    let station : is-station (c .args .station) ≡ true = grind (arith, tells) in
-    let number : pos (natAbs (toZ w32 (ofZ w32 (c .args .station)))) ≡ c .args .station = grind (arith, ints) in
+    let there = simp toZ-ofZ at (c .is-station .ensures) in
+    let station : is-station (c .args .station) ≡ true = sym there ∙ c .if-not-is-station .left in
+    let number = ap (λ z. pos (natAbs z)) (toZ-ofZ w32 _ fs) ∙ station-bounds (c .args .station) station .2 in
     let indicator = simp toZ-ofZ at (c .in-Some .ensures tt .answer) in
     let month = simp toZ-ofZ at (c .in-Continue-calendar .ensures tt) in
     let calendar = accepted _ _ _ month in
     accepts _ _ _ (right-sheet (c .args .station) (c .args .year) (c .args .month) (c .args .iw) (c .in-Some .wind) station (passed _ _ (calendar .0)) (sym indicator))
     (number, calendar .1 .0, calendar .1 .1, simp toZ-ofZ at (c .in-Some .ensures tt .bears))
+
+pub ghost-result : need.ghost-result
+ghost-result c =
+    let f = c .fits .station in
+    let there = simp toZ-ofZ at (c .is-station .ensures) in
+    let station : is-station (c .args .station) ≡ true = sym there ∙ c .if-not-is-station .left in
+    let bounds = station-bounds (c .args .station) station in
+    let same : natAbs (toZ w32 (ofZ w32 (c .args .station))) ≡ natAbs (c .args .station) = ap natAbs (toZ-ofZ w32 _ f) in
+    (omega arith, (omega arith, tt))
