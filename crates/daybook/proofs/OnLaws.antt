@@ -76,7 +76,7 @@ module _ (g : Grid) (ceiling : ℕ) where
       let bounds = number-bounds element in
       rw (← is-i, ← is-j) (filled-with day (element-number element) from to (bounds .0) (bounds .1) g x)
 
-  at-pair : (i j : ℤ) (x : Option ℤ) → pair-refusal i j ≡ None → filled (with-pair g i j x) + cond (isSome (g i j)) 1 0 ≡ filled g + cond (isSome x) 1 0
+  pub at-pair : (i j : ℤ) (x : Option ℤ) → pair-refusal i j ≡ None → filled (with-pair g i j x) + cond (isSome (g i j)) 1 0 ≡ filled g + cond (isSome x) 1 0
   at-pair i j x n = let pair = found-pair i j n in at-place i j (pair .day) (pair .element) x (pair .is-d) (pair .is-e) (pair .from) (pair .to)
 
   room-left : (t : Bool) → cond (not t && leb ceiling (filled g)) (Some Full) None ≡ None → (t ≡ true) ⊎ (filled g < ceiling)

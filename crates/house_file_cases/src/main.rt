@@ -1,10 +1,16 @@
 // Cases for the crate house_file. Each line of standard input is a file, in which | stands for a line feed and ~ for a carriage
 // return; a line = is a sound file of 65,536 bytes, and a line + the same with one byte more. For each, its first fault is printed,
-// or its sheet and every value that it holds, as day/element=value.
+// or its sheet and every value that it holds, as day/element=value; and then whether it was entered into a grid book, and how many
+// values the book holds.
+use daybook::grid_book::GridBook;
+use daybook::grid_book::GridBookDaybook;
+use daybook::grid_book::GridBookSource;
+use daybook::reading::days_held;
 use daybook::reading::reading;
 use house_file::check::check_file;
 use house_file::day_sheet::DaySheet;
 use house_file::day_sheet::DaySheetSource;
+use house_file::enter::enter_file;
 use station::element::Element;
 use station::sheet::Sheet;
 use std::alloc::AllocError;
@@ -57,7 +63,18 @@ fn show_values(rt: &LibcRuntime, source: &DaySheet<'_>) -> io::Result<()> {
             }
         }
     }
-    println!(rt, "")
+    Ok(())
+}
+
+// How many values a grid book holds once the file is entered.
+fn show_entered(rt: &LibcRuntime, text: &[u8]) -> io::Result<()> {
+    let mut book = GridBook::new();
+    let entered = enter_file(&mut book, text).is_ok();
+    let mut values: usize = 0;
+    for element in Element::ALL {
+        values = values.saturating_add(usize::from(days_held(&book, element, MOST_DAYS)));
+    }
+    println!(rt, " | {} {values}", u8::from(entered))
 }
 
 fn show_sheet(rt: &LibcRuntime, sheet: Sheet) -> io::Result<()> {
@@ -83,7 +100,8 @@ fn show(rt: &LibcRuntime, text: &[u8]) -> io::Result<()> {
         )?,
         Ok(sheet) => show_sheet(rt, sheet)?,
     }
-    show_values(rt, &DaySheet::new(text))
+    show_values(rt, &DaySheet::new(text))?;
+    show_entered(rt, text)
 }
 
 fn main(rt: LibcRuntime) -> io::Result<()> {
