@@ -13,9 +13,11 @@ use Rattle.station.specs.Refusals.{requiring, or-else, unless, altered}
 use Rattle.station.specs.Elements.{is-element, in-range}
 use Rattle.daybook.specs.Grid.{Grid, is-day, with-pair, filled}
 
+-- a day outside 1 to 31
 abbrev pub day-refusal : ℤ → Option Refusal
 day-refusal d = requiring (is-day d) Day
 
+-- a number that no element bears
 abbrev pub element-refusal : ℤ → Option Refusal
 element-refusal e = requiring (is-element e) Element
 
@@ -23,6 +25,7 @@ element-refusal e = requiring (is-element e) Element
 unfoldable pub pair-refusal : ℤ → ℤ → Option Refusal
 pair-refusal d e = or-else (day-refusal d) (element-refusal e)
 
+-- a value outside its element's range
 abbrev pub value-refusal : ℤ → ℤ → Option Refusal
 value-refusal e v = requiring (in-range e v) Value
 

@@ -10,9 +10,11 @@ use Rattle.std.specs.Options.{isSome}
 use Rattle.station.specs.Numbers.{within, same}
 use Rattle.station.specs.Elements.{elements, in-range}
 
+-- for each day and element number a value or nothing
 abbrev pub Grid : Type 0
 Grid = ℤ → ℤ → Option ℤ
 
+-- nothing anywhere
 abbrev pub empty-grid : Grid
 empty-grid d e = None
 
@@ -24,6 +26,7 @@ with-pair g d e x d′ e′ = cond (same d′ d && same e′ e) x (g d′ e′)
 abbrev pub most-days : ℕ
 most-days = 31
 
+-- a day of some month
 abbrev pub is-day : ℤ → Bool
 is-day d = within (pos 1) (pos most-days) d
 

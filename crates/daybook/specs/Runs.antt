@@ -18,6 +18,7 @@ use Rattle.daybook.specs.declared.call.Logged.{Logged}
 use Rattle.daybook.specs.Grid.{Grid, filled}
 use Rattle.daybook.specs.Calls.{enter-refusal, strike-refusal, looked-up, entered, struck}
 
+-- what a call answers
 abbrev pub answer-to : Grid → ℕ → Call → Answer
 answer-to g ceiling (Enter d e v) = Changed (unless (enter-refusal g ceiling d e v) tt)
 answer-to g ceiling (Strike d e) = Changed (unless (strike-refusal g d e) tt)
@@ -57,6 +58,7 @@ left-by (Enter d e v) = Some v
 left-by (Strike d e) = None
 left-by (LookUp d e) = None
 
+-- an answer that is no refusal
 abbrev pub is-accepted : Option Answer → Bool
 is-accepted None = false
 is-accepted (Some (Changed r)) = isOk r

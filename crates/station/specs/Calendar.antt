@@ -11,9 +11,11 @@ use Rattle.station.specs.declared.refusal.Refusal.the-variants.{Sheet}
 use Rattle.station.specs.Numbers.{within}
 use Rattle.station.specs.Refusals.{requiring}
 
+-- the first year that a report can name
 abbrev pub first-year : ℕ
 first-year = 1950
 
+-- the last year that a report can name
 abbrev pub last-year : ℕ
 last-year = 2949
 
@@ -29,9 +31,11 @@ is-leap year = eqb (year % 4) 0 && (not (eqb (year % 100) 0) || eqb (year % 400)
 unfoldable pub month-length : ℕ → ℕ → ℕ
 month-length year month = cond (eqb month 2 && is-leap year) 29 (getD common-lengths (month - 1) 0)
 
+-- a year that a report can name
 abbrev pub is-year : ℤ → Bool
 is-year n = within (pos first-year) (pos last-year) n
 
+-- one of the twelve months
 abbrev pub is-month-number : ℤ → Bool
 is-month-number n = within (pos 1) (pos (length common-lengths)) n
 
@@ -39,5 +43,6 @@ is-month-number n = within (pos 1) (pos (length common-lengths)) n
 abbrev pub is-month : ℤ → ℤ → Bool
 is-month year month = is-year year && is-month-number month
 
+-- a year and a month are declined exactly where one is outside its limits
 abbrev pub month-refusal : ℤ → ℤ → Option Refusal
 month-refusal year month = requiring (is-month year month) Sheet

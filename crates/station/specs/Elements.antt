@@ -19,6 +19,7 @@ elements =
     StationPressure ∷ SeaLevelPressure ∷ MeanTemperature ∷ HighestTemperature ∷ LowestTemperature ∷ VapourPressure
     ∷ Rain ∷ Sunshine ∷ SnowDepth ∷ Wind ∷ Visibility ∷ Weather ∷ []
 
+-- the number by which calls and files name an element
 abbrev pub element-number : Element → ℕ
 element-number StationPressure = 1
 element-number SeaLevelPressure = 2
@@ -37,9 +38,11 @@ element-number Weather = 12
 unfoldable pub element-numbered : ℤ → Option Element
 element-numbered n = first-bearing element-number n elements
 
+-- an element bears this number
 abbrev pub is-element : ℤ → Bool
 is-element n = isSome (element-numbered n)
 
+-- what one step of a value stands for
 abbrev pub unit-of : Element → Measure
 unit-of StationPressure = TenthHectopascal
 unit-of SeaLevelPressure = TenthHectopascal
@@ -88,6 +91,7 @@ highest-of Weather = pos 3
 abbrev pub takes : Element → ℤ → Bool
 takes x v = within (lowest-of x) (highest-of x) v
 
+-- whether an element, if there is one, takes a value
 abbrev pub some-takes : Option Element → ℤ → Bool
 some-takes None v = false
 some-takes (Some x) v = takes x v

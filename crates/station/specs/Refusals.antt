@@ -9,6 +9,7 @@ use Rattle.std.specs.declared.result.Result.the-variants.{Ok, Err}
 use Rattle.station.specs.declared.refusal.Refusal.{Refusal}
 use Rattle.station.specs.declared.refusal.Refusal.the-variants.{Sheet, Normal, Day, Element, Value, Full, Empty, Room, Month, Malformed}
 
+-- the number by which a refusal is known
 abbrev pub refusal-number : Refusal → ℕ
 refusal-number Sheet = 1
 refusal-number Normal = 2

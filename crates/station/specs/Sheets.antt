@@ -13,12 +13,15 @@ use Rattle.station.specs.Numbers.{within, first-bearing}
 use Rattle.station.specs.Refusals.{requiring}
 use Rattle.station.specs.Calendar.{is-month}
 
+-- the lowest station number
 abbrev pub first-station : ℕ
 first-station = 1000
 
+-- the highest station number
 abbrev pub last-station : ℕ
 last-station = 98999
 
+-- a station number
 abbrev pub is-station : ℤ → Bool
 is-station n = within (pos first-station) (pos last-station) n
 
@@ -27,6 +30,7 @@ abbrev pub indicator-number : WindIndicator → ℕ
 indicator-number Estimated = 0
 indicator-number Measured = 1
 
+-- all wind indicators
 abbrev pub indicators : List WindIndicator
 indicators = Estimated ∷ Measured ∷ []
 
@@ -34,6 +38,7 @@ indicators = Estimated ∷ Measured ∷ []
 unfoldable pub indicator-numbered : ℤ → Option WindIndicator
 indicator-numbered n = first-bearing indicator-number n indicators
 
+-- an indicator has this code figure
 abbrev pub is-indicator : ℤ → Bool
 is-indicator n = isSome (indicator-numbered n)
 
