@@ -1,0 +1,4 @@
+pub mod OnMoves
+pub mod OnSought
+pub mod OnOrder
+pub mod OnTables
