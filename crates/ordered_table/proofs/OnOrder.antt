@@ -11,7 +11,16 @@ use Rattle.std.specs.declared.option.Option.the-variants.{Some, None}
 use Rattle.std.proofs.shelf.Tests.{and-parts, and-from, cases-bool, not-true}
 use Rattle.ordered_table.specs.declared.row.Row.{Row}
 use Rattle.ordered_table.specs.Rows.{found, placed, without}
-use Rattle.ordered_table.specs.Order.{Order, same-key, each-key, rising, distinct, Map-set}
+use Rattle.ordered_table.specs.Order.{same-key, each-key, rising, distinct, Map-set}
+
+-- a total order, as every key has one
+pub record Order {K : Type 0} (lt : K → K → Bool) : Type 0 where
+  -- nothing is below itself
+  pub itself : (x : K) → lt x x ≡ false
+  -- what is below something below z is below z
+  pub chain : (x y z : K) → lt x y ≡ true → lt y z ≡ true → lt x z ≡ true
+  -- of two that differ one is below the other
+  pub apart : (x y : K) → lt x y ≡ false → lt y x ≡ false → x ≡ y
 
 and-false : (a : Bool) → (a && false) ≡ false
 and-false true = refl

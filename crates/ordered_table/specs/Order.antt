@@ -7,15 +7,6 @@ use Rattle.std.specs.declared.option.Option.the-variants.{Some, None}
 use Rattle.ordered_table.specs.declared.row.Row.{Row}
 use Rattle.ordered_table.specs.Rows.{found}
 
--- what a total order is
-pub record Order {K : Type 0} (lt : K → K → Bool) : Type 0 where
-  -- nothing is below itself
-  pub itself : (x : K) → lt x x ≡ false
-  -- what is below something below z is below z
-  pub chain : (x y z : K) → lt x y ≡ true → lt y z ≡ true → lt x z ≡ true
-  -- of two that differ one is below the other
-  pub apart : (x y : K) → lt x y ≡ false → lt y x ≡ false → x ≡ y
-
 -- neither is below the other
 abbrev pub same-key : {K : Type 0} → (K → K → Bool) → K → K → Bool
 same-key lt a b = not (lt a b) && not (lt b a)

@@ -2,10 +2,10 @@ use mathlib.Core.Path.{_≡_, refl, sym, ap, subst, _∙_}
 use native.Mathlib.Omega.{arith}
 use lib.ListN.{length, take, drop}
 use Rattle.ordered_table.specs.Rows.{placed}
-use Rattle.ordered_table.specs.Order.{Order, Map-set}
+use Rattle.ordered_table.specs.Order.{Map-set}
 use Rattle.std.specs.declared.option.Option.the-variants.{Some}
 use Rattle.ordered_table.proofs.OnSought.{held-le, take-held}
-use Rattle.ordered_table.proofs.OnOrder.{set-placed}
+use Rattle.ordered_table.proofs.OnOrder.{Order, set-placed}
 use Rattle.ordered_table.proofs.OnTables.{first-rows, behind-rows, unchanged}
 use Rattle.ordered_table.proofs.table.Table.put.Needs as need
 

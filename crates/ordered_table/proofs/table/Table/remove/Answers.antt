@@ -3,10 +3,10 @@ use mathlib.Core.List.{_++_}
 use native.Mathlib.Omega.{arith}
 use lib.ListN.{length, take, drop}
 use Rattle.ordered_table.specs.Rows.{without, row-of}
-use Rattle.ordered_table.specs.Order.{Order, Map-set}
+use Rattle.ordered_table.specs.Order.{Map-set}
 use Rattle.std.specs.declared.option.Option.the-variants.{None}
 use Rattle.ordered_table.proofs.OnSought.{held-le, take-held}
-use Rattle.ordered_table.proofs.OnOrder.{set-without}
+use Rattle.ordered_table.proofs.OnOrder.{Order, set-without}
 use Rattle.ordered_table.proofs.OnTables.{first-rows}
 use Rattle.ordered_table.proofs.table.Table.remove.Needs as need
 
