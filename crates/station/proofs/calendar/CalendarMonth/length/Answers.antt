@@ -3,11 +3,11 @@ use Rattle.std.proofs.lemmas.Bool.{and_left, and_right, ne_eqb}
 use Rattle.station.specs.Calendar.{is_leap}
 use Rattle.station.proofs.OnCalendar.{leap_february, common_month, common_bounds}
 use Rattle.station.proofs.calendar.CalendarMonth.length.Goals as goal
-use Rattle.station.proofs.calendar.CalendarMonth.length.Goals.{else-self-eq-FEBRUARY-via-then-self-eq-FEBRUARY+else-is-leap, else-self-eq-FEBRUARY-via-else-self-eq-FEBRUARY}
+use Rattle.station.proofs.calendar.CalendarMonth.length.Goals.{else-self-eq-FEBRUARY-via-then-self-eq-FEBRUARY+else-is_leap, else-self-eq-FEBRUARY-via-else-self-eq-FEBRUARY}
 
-pub returns-then-is-leap : goal.returns-then-is-leap
-returns-then-is-leap c = record {
-  value = leap_february _ _ c.if-self-eq-FEBRUARY.true (sym c.if-is-leap.ensures);
+pub returns-then-is_leap : goal.returns-then-is_leap
+returns-then-is_leap c = record {
+  value = leap_february _ _ c.if-self-eq-FEBRUARY.true (sym c.if-is_leap.ensures);
   least = search rules;
   most = search rules;
 }
@@ -17,7 +17,7 @@ returns c =
     let bounds = common_bounds c.args.self.month c.args.self.month_from c.args.self.month_to in
     let other : (eqb c.args.self.month 2 && is_leap c.args.self.year) ≡ false =
     elim c.else-self-eq-FEBRUARY.branch [
-      | else-self-eq-FEBRUARY-via-then-self-eq-FEBRUARY+else-is-leap w ↦ and_right _ _ (sym w.if-is-leap.ensures)
+      | else-self-eq-FEBRUARY-via-then-self-eq-FEBRUARY+else-is_leap w ↦ and_right _ _ (sym w.if-is_leap.ensures)
       | else-self-eq-FEBRUARY-via-else-self-eq-FEBRUARY w ↦ and_left _ _ (ne_eqb _ _ w.if-self-eq-FEBRUARY.false)
     ] in
     record { value = common_month _ _ other; least = bounds.0; most = bounds.1 }

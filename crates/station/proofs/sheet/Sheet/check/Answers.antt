@@ -8,26 +8,26 @@ use Rattle.station.proofs.OnRefusals.{declines, accepts, declined, accepted, fai
 use Rattle.station.proofs.OnSheets.{wrong_station, wrong_month, wrong_indicator, right_sheet, station_bounds}
 use Rattle.station.proofs.sheet.Sheet.check.Goals as goal
 
-pub returns-then-not-is-station : goal.returns-then-not-is-station
-returns-then-not-is-station c =
+pub returns-then-not-is_station : goal.returns-then-not-is_station
+returns-then-not-is_station c =
     let f = c.ranges.station in
-    let wrong = simp to_z-of_z at c.is-station.ensures in
-    declines _ _ _ (wrong_station c.args.station c.args.year c.args.month c.args.iw (sym wrong ∙ c.if-not-is-station.true))
+    let wrong = simp to_z-of_z at c.is_station.ensures in
+    declines _ _ _ (wrong_station c.args.station c.args.year c.args.month c.args.iw (sym wrong ∙ c.if-not-is_station.true))
 
-pub returns-in-err-calendar : goal.returns-in-err-calendar
-returns-in-err-calendar c =
+pub returns-in_err-calendar : goal.returns-in_err-calendar
+returns-in_err-calendar c =
     let fy = c.ranges.year in
     let fm = c.ranges.month in
-    let e = err_from_is_err_and c.from-residual.result c.from-residual.ensures.1 in
-    let h = simp to_z-of_z at c.in-err-calendar.ensures in
+    let e = err_from_is_err_and c.from_residual.result c.from_residual.ensures.1 in
+    let h = simp to_z-of_z at c.in_err-calendar.ensures in
     let why = declined _ _ _ h in
     let wrong : is_month c.args.year c.args.month ≡ false = failed _ _ _ why in
     hands_on _ _ _ _ _ (wrong_month c.args.station c.args.year c.args.month c.args.iw wrong) e.1 (e.2 ∙ failed_with _ _ _ why)
 
-pub returns-in-default : goal.returns-in-default
-returns-in-default c =
+pub returns-in_default : goal.returns-in_default
+returns-in_default c =
     let f = c.ranges.iw in
-    let h = simp to_z-of_z at c.in-default.ensures.answer in
+    let h = simp to_z-of_z at c.in_default.ensures.answer in
     declines _ _ _ (wrong_indicator c.args.station c.args.year c.args.month c.args.iw (sym h))
 
 pub returns : goal.returns
@@ -36,20 +36,20 @@ returns c =
     let fy = c.ranges.year in
     let fm = c.ranges.month in
     let fi = c.ranges.iw in
-    let there = simp to_z-of_z at c.is-station.ensures in
-    let station : is_station c.args.station ≡ true = sym there ∙ c.if-not-is-station.false in
+    let there = simp to_z-of_z at c.is_station.ensures in
+    let station : is_station c.args.station ≡ true = sym there ∙ c.if-not-is_station.false in
     let number = ap (λ z. pos (nat_abs z)) (to_z-of_z w32 _ fs) ∙ (station_bounds c.args.station station).2 in
     let indicator = simp to_z-of_z at c.in-Some.ensures.answer in
-    let month = simp to_z-of_z at c.in-ok-calendar.ensures in
+    let month = simp to_z-of_z at c.in_ok-calendar.ensures in
     let calendar = accepted _ _ _ month in
     accepts _ _ _ (right_sheet c.args.station c.args.year c.args.month c.args.iw c.in-Some.wind station (passed _ _ calendar.0) (sym indicator))
     (number, calendar.1.0, calendar.1.1, simp to_z-of_z at c.in-Some.ensures.bears)
 
-pub invariant-of-result : goal.invariant-of-result
-invariant-of-result c =
+pub invariant_of-result : goal.invariant_of-result
+invariant_of-result c =
     let f = c.ranges.station in
-    let there = simp to_z-of_z at c.is-station.ensures in
-    let station : is_station c.args.station ≡ true = sym there ∙ c.if-not-is-station.false in
+    let there = simp to_z-of_z at c.is_station.ensures in
+    let station : is_station c.args.station ≡ true = sym there ∙ c.if-not-is_station.false in
     let bounds = station_bounds c.args.station station in
     let same : nat_abs (to_z w32 (of_z w32 c.args.station)) ≡ nat_abs c.args.station = ap nat_abs (to_z-of_z w32 _ f) in
-    (omega arith, (omega arith, tt))
+    record { station_from = omega arith; station_to = omega arith }

@@ -12,6 +12,6 @@ pub returns-in-1 : goal.returns-in-1
 unfolding indicator_numbered
 returns-in-1 c = let h : Some Measured ≡ indicator_numbered c.args.number = search rules in record { answer = h; bears = bearing_indicator _ _ h }
 
-pub returns-in-default : goal.returns-in-default
+pub returns-in_default : goal.returns-in_default
 unfolding indicator_numbered
-returns-in-default c = let h : None ≡ indicator_numbered c.args.number = search rules in record { answer = h; bears = bearing_indicator _ _ h }
+returns-in_default c = let h : None ≡ indicator_numbered c.args.number = search rules in record { answer = h; bears = bearing_indicator _ _ h }
