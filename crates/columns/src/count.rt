@@ -40,7 +40,7 @@ impl Condition for Phenomenon {
 }
 
 fn is_met_on<C: Condition>(condition: C, value: Option<i32>) -> bool
-    ensures { result ≡ passes_on (passes condition) value }
+    ensures { result ≡ passes_on (C.passes condition) value }
 {
     match value {
         Some(value) => condition.is_met(value),
@@ -55,9 +55,9 @@ pub fn days_when<S: DaySource, C: Condition>(
     condition: C,
     last: u8,
 ) -> u8
-    ensures value { result ≡ days_when (passes condition) (column (grid source.now) element) last }
-    ensures law { Counted (passes condition) (column (grid source.now) element) last result }
-    ensures same { source.now ≡ source.now }
+    ensures value { result ≡ days_when (C.passes condition) (column (S.grid source.now) element) last }
+    ensures law { Counted (C.passes condition) (column (S.grid source.now) element) last result }
+    ensures same { source.exit.now ≡ source.entry.now }
 {
     let mut days: u8 = 0;
     for passed in 0..last {
