@@ -15,8 +15,8 @@ pub fn highest_temperature<S: DaySource>(
     element: Element,
     month: CalendarMonth,
 ) -> Option<Extreme<HighTemperature>>
-    ensures answer { Highest (grid source.now) element month result }
-    ensures same { source.now ≡ source.now }
+    ensures answer { Highest (S.grid source.now) element month result }
+    ensures same { source.exit.now ≡ source.entry.now }
 {
     find_extreme(&HighDays { source, element }, month.length())
 }
@@ -26,15 +26,15 @@ pub fn lowest_temperature<S: DaySource>(
     element: Element,
     month: CalendarMonth,
 ) -> Option<Extreme<LowTemperature>>
-    ensures answer { Lowest (grid source.now) element month result }
-    ensures same { source.now ≡ source.now }
+    ensures answer { Lowest (S.grid source.now) element month result }
+    ensures same { source.exit.now ≡ source.entry.now }
 {
     find_extreme(&LowDays { source, element }, month.length())
 }
 
 pub fn greatest_rain<S: DaySource>(source: &S, month: CalendarMonth) -> Option<Extreme<RainDepth>>
-    ensures answer { MostRain (grid source.now) month result }
-    ensures same { source.now ≡ source.now }
+    ensures answer { MostRain (S.grid source.now) month result }
+    ensures same { source.exit.now ≡ source.entry.now }
 {
     find_extreme(&RainDays { source }, month.length())
 }
@@ -44,8 +44,8 @@ pub fn greatest_wind<S: DaySource>(
     month: CalendarMonth,
     indicator: WindIndicator,
 ) -> Option<Extreme<WindSpeed>>
-    ensures answer { MostWind (grid source.now) month indicator result }
-    ensures same { source.now ≡ source.now }
+    ensures answer { MostWind (S.grid source.now) month indicator result }
+    ensures same { source.exit.now ≡ source.entry.now }
 {
     find_extreme(&WindDays { source, indicator }, month.length())
 }

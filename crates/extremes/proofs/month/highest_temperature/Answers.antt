@@ -8,6 +8,6 @@ returns g c =
     let days = c.length.ensures in
     let source = c.args.source.now in
     record {
-      answer = of_month as_high warmer (g.S.DaySource.grid source) c.args.element c.args.month c.length.result days.value days.least days.most _ c.find-extreme.ensures;
+      answer = of_month as_high warmer (g.S.DaySource.grid source) c.args.element c.args.month c.length.result days.value days.least days.most _ c.find_extreme.ensures;
       same = refl {a = source};
     }

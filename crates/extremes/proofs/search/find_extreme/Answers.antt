@@ -3,16 +3,16 @@ use Rattle.extremes.specs.Tops.{Right}
 use Rattle.extremes.proofs.OnTops.{tops_one, tops_after, searched}
 use Rattle.extremes.proofs.search.find_extreme.Goals as goal
 
-pub returns-in-default : goal.returns-in-default
-returns-in-default g c = searched _ _ _ None (inr (1, omega arith, omega arith, sym c.on.ensures ∙ c.in-default.is))
+pub returns-in_default : goal.returns-in_default
+returns-in_default g c = searched _ _ _ None (inr (1, omega arith, omega arith, sym c.on.ensures ∙ c.in_default.is))
 
 pub loop-passed-init : goal.loop-passed-init
 loop-passed-init g c =
     let laws = g.met.R.Item.Ranked in
     tops_one g.R.Item.Ranked.over laws.one_way laws.chain (g.R.Readings.at c.args.readings.now) c.in-Some.reading c.in-Some.ensures
 
-pub returns-in-default-on : goal.returns-in-default-on
-returns-in-default-on g c = searched _ _ _ None (inr (c.loop-passed.passed + 1, omega arith, omega arith, sym c.on-in-loop-passed.ensures ∙ c.in-default-on.is))
+pub returns-in_default-on : goal.returns-in_default-on
+returns-in_default-on g c = searched _ _ _ None (inr (c.loop-passed.passed + 1, omega arith, omega arith, sym c.on-in-loop-passed.ensures ∙ c.in_default-on.is))
 
 pub loop-passed-preserved : goal.loop-passed-preserved
 loop-passed-preserved g c =
