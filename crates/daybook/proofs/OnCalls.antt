@@ -1,6 +1,6 @@
 -- What the checks of a call, one after the other, come to. Assumes nothing.
-use Rattle.std.proofs.Common.{◌≡◌, ℕ, ◌<◌, ◌≤◌, Bool, true, false, not, ◌&&◌, leb, ℤ, is_some, Some, None, Ok, Err, Option, refl, ap, arith}
-use Rattle.std.proofs.lemmas.Bool.{and_left, and_right, lt-leb, le-leb}
+use Rattle.std.proofs.Common.{◌≡◌, ℕ, ◌<◌, ◌≤◌, true, false, not, leb, ℤ, is_some, Some, None, Ok, Err}
+use Rattle.std.proofs.lemmas.Bool.{and_right, lt-leb, le-leb}
 use Rattle.station.specs.declared.refusal.Refusal.{Refusal}
 use Rattle.station.specs.declared.refusal.Refusal.TheVariants.{Full, Empty}
 use Rattle.daybook.specs.Grid.{Grid, filled, with_pair}

@@ -1,5 +1,5 @@
 -- What the cells of a grid book stand for, and what a write to one changes. Assumes nothing.
-use Rattle.std.proofs.Common.{◌≡◌, ℕ, zero, suc, ◌+◌, ◌-◌, ◌*◌, ◌<◌, ◌≤◌, Bool, true, false, cond, ◌&&◌, List, [], ◌∷◌, length, get_or, set, replicate, ℤ, pos, negsuc, nat_abs, is_some, Some, None, Option, sym, refl, ap, ◌∙◌, subst, arith, get_or-set_other, get_or-set_same}
+use Rattle.std.proofs.Common.{◌≡◌, ℕ, zero, suc, ◌<◌, ◌≤◌, Bool, true, false, cond, ◌&&◌, List, length, get_or, set, replicate, ℤ, pos, negsuc, nat_abs, is_some, None, Option, sym, refl, ap, subst, arith, get_or-set_other, get_or-set_same}
 use mathlib.Core.Path.{fun_ext}
 use Rattle.std.proofs.lemmas.Bool.{both_ways, and_right, and_parts, and_from}
 use Rattle.std.proofs.lemmas.Bool.Decides.{nat_tests}
@@ -8,7 +8,7 @@ use Rattle.station.specs.Numbers.{same}
 use Rattle.station.specs.Elements.{element_number, is_element}
 use Rattle.station.proofs.OnElements.{numbered_of, number_bounds, is_element_bounds, negative_none}
 use Rattle.station.proofs.OnNumbers.{same_true}
-use Rattle.daybook.specs.Grid.{Grid, empty_grid, is_day, with_pair, valid_at, Valid, pair_count, place}
+use Rattle.daybook.specs.Grid.{empty_grid, is_day, with_pair, valid_at, Valid, pair_count, place}
 use Rattle.daybook.specs.Cells.{grid_of}
 use Rattle.daybook.proofs.OnPairs.{day_there}
 use Rattle.daybook.proofs.OnGrids.{valid_empty, valid_with}

@@ -1,13 +1,13 @@
 -- What the calls of a grid book come to, at a pair that stands for a day and an element's number. Assumes nothing.
-use Rattle.std.proofs.Common.{◌≡◌, ℕ, ◌<◌, ◌≤◌, Bool, true, false, ◌&&◌, List, length, get_or, set, ℤ, pos, is_some, Some, None, Ok, Option, sym, refl, ap, ◌∙◌, subst, ⊎_elim}
+use Rattle.std.proofs.Common.{◌≡◌, ℕ, ◌≤◌, true, false, List, length, get_or, set, ℤ, pos, is_some, Some, None, Ok, Option, sym, refl, ap, ◌∙◌, ⊎_elim}
 use Rattle.std.proofs.lemmas.Bool.{cases_Bool, and_from}
 use Rattle.station.specs.declared.element.Element.{Element}
 use Rattle.station.specs.declared.refusal.Refusal.TheVariants.{Empty}
-use Rattle.station.specs.Elements.{element_number, in_range}
+use Rattle.station.specs.Elements.{element_number}
 use Rattle.station.proofs.OnElements.{number_bounds}
 use Rattle.station.proofs.OnRefusals.{passed}
-use Rattle.daybook.specs.Grid.{Grid, is_day, with_pair, valid_at, Valid, pair_count, place, filled}
-use Rattle.daybook.specs.Calls.{pair_refusal, value_refusal, enter_refusal, strike_refusal, looked_up, entered, struck}
+use Rattle.daybook.specs.Grid.{valid_at, Valid, pair_count, place}
+use Rattle.daybook.specs.Calls.{value_refusal, enter_refusal, strike_refusal, looked_up, entered, struck}
 use Rattle.daybook.specs.Cells.{grid_of}
 use Rattle.daybook.proofs.OnPairs.{pair_there, day_there}
 use Rattle.daybook.proofs.OnGrids.{filled_below}

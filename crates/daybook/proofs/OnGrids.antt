@@ -1,10 +1,10 @@
 -- What a change of one pair does to a grid. Assumes nothing.
-use Rattle.std.proofs.Common.{◌≡◌, ℕ, suc, ◌+◌, ◌-◌, ◌*◌, ◌/◌, ◌%◌, ◌<◌, ◌≤◌, Bool, true, false, cond, ◌&&◌, ℤ, pos, is_some, Some, None, Option, sym, refl, ap, ◌∙◌, subst, ⊎_elim, arith}
+use Rattle.std.proofs.Common.{◌≡◌, ℕ, suc, ◌+◌, ◌/◌, ◌%◌, ◌<◌, ◌≤◌, true, false, cond, ◌&&◌, ℤ, pos, is_some, Option, sym, refl, ap, ◌∙◌, subst, ⊎_elim, arith}
 use Rattle.std.proofs.lemmas.Bool.{cases_eq, cond_both, and_parts, and_left, and_right}
 use Rattle.std.proofs.lemmas.Bool.Decides.{nat_tests}
 use Rattle.station.specs.Numbers.{same}
 use Rattle.station.proofs.OnNumbers.{same_true}
-use Rattle.daybook.specs.Grid.{Grid, empty_grid, with_pair, valid_at, Valid, pair_count, place, filled_at, count, filled}
+use Rattle.daybook.specs.Grid.{Grid, empty_grid, with_pair, valid_at, Valid, pair_count, place, filled_at, filled}
 use Rattle.daybook.proofs.OnCounts.{count_none, count_most, count_below, count_change}
 
 -- ---- equal numbers

@@ -1,13 +1,12 @@
 -- The laws of every run of calls. Assumes nothing.
 use Rattle.std.proofs.Common.{◌≡◌, ℕ, ◌+◌, ◌<◌, ◌≤◌, Bool, true, false, cond, not, ◌&&◌, leb, ◌⊎◌, List, [], ◌∷◌, ◌++◌, ℤ, pos, is_some, is_ok, Some, None, Ok, Option, sym, refl, ap, ◌∙◌, subst, inl, inr, ⊎_elim, arith}
-use Rattle.std.proofs.lemmas.Bool.{and_parts, and_from, not-true, cond-false, cond-true, leb-false}
-use Rattle.std.proofs.lemmas.Bool.Decides.{nat_tests}
+use Rattle.std.proofs.lemmas.Bool.{and_parts, not-true, cond-false, cond-true, leb-false}
 use Rattle.station.specs.declared.element.Element.{Element}
 use Rattle.station.specs.declared.refusal.Refusal.{Refusal}
 use Rattle.station.specs.declared.refusal.Refusal.TheVariants.{Full}
 use Rattle.station.specs.Numbers.{same}
 use Rattle.station.specs.Elements.{element_number}
-use Rattle.station.specs.Refusals.{requiring, or_else, unless, altered}
+use Rattle.station.specs.Refusals.{or_else, unless, altered}
 use Rattle.station.proofs.OnNumbers.{same_true}
 use Rattle.station.proofs.OnElements.{number_bounds}
 use Rattle.station.proofs.OnRefusals.{none_first, none_second}

@@ -1,5 +1,5 @@
 -- Which pairs and values are declined. Assumes nothing.
-use Rattle.std.proofs.Common.{◌≡◌, ℕ, ◌≤◌, true, false, ℤ, pos, negsuc, is_some, Some, None, Ok, Err, Option, sym, refl, ap, ◌∙◌, arith}
+use Rattle.std.proofs.Common.{◌≡◌, ℕ, ◌≤◌, true, false, ℤ, pos, negsuc, is_some, Some, None, Ok, Err, Option, sym, refl, arith}
 use Rattle.std.proofs.lemmas.Bool.Decides.{nat_tests}
 use Rattle.station.specs.declared.element.Element.{Element as Quantity}
 use Rattle.station.specs.declared.refusal.Refusal.{Refusal}

@@ -6,9 +6,9 @@ use crate::call::{Answer, Call, Logged};
 use crate::source::{DaySource, Daybook};
 
 pub fn perform<B: DaySource + Daybook>(book: &mut B, call: Call) -> Answer
-    ensures answer { result ≡ answer_to (grid book.old) (limit book.old) call }
-    ensures after { grid book.new ≡ after (grid book.old) (limit book.old) call }
-    ensures ceiling { limit book.new ≡ limit book.old }
+    ensures answer { result ≡ answer_to (B.grid book.old) (B.limit book.old) call }
+    ensures after { B.grid book.new ≡ after (B.grid book.old) (B.limit book.old) call }
+    ensures ceiling { B.limit book.new ≡ B.limit book.old }
 {
     match call {
         Call::Enter {
@@ -23,10 +23,10 @@ pub fn perform<B: DaySource + Daybook>(book: &mut B, call: Call) -> Answer
 
 // Carries out each call of the log in turn, and notes its answer beside it.
 pub fn carry_out<B: DaySource + Daybook>(book: &mut B, log: &mut [Logged])
-    ensures log { log.new ≡ carried_out (grid book.old) (limit book.old) log.old }
-    ensures after { grid book.new ≡ standing (grid book.old) (limit book.old) log.old }
-    ensures ceiling { limit book.new ≡ limit book.old }
-    ensures laws { RunsBy (grid book.old) (limit book.old) log.new (grid book.new) }
+    ensures log { log.new ≡ carried_out (B.grid book.old) (B.limit book.old) log.old }
+    ensures after { B.grid book.new ≡ standing (B.grid book.old) (B.limit book.old) log.old }
+    ensures ceiling { B.limit book.new ≡ B.limit book.old }
+    ensures laws { RunsBy (B.grid book.old) (B.limit book.old) log.new (B.grid book.new) }
 {
     for i in 0..log.len() {
         let call = log[i].call;

@@ -14,8 +14,8 @@ pub trait DaySource {
     ghost valid: { (s : Self) → Valid (grid s) };
 
     fn look_up(&self, day: i32, element: i32) -> Result<Option<i32>, Refusal>
-        ensures answer { result ≡ looked_up (grid self.now) day element }
-        ensures same { self.now ≡ self.now };
+        ensures answer { result ≡ looked_up (Self.grid self.now) day element }
+        ensures same { self.exit.now ≡ self.entry.now };
 }
 
 // A day source that takes entries and strikes, as long as no more pairs are filled than its ceiling, which never changes.
@@ -23,18 +23,18 @@ pub trait Daybook: DaySource {
     ghost limit: { Self → ℕ };
 
     fn ceiling(&self) -> usize
-        ensures answer { result ≡ limit self.now }
-        ensures same { self.now ≡ self.now };
+        ensures answer { result ≡ Self.limit self.now }
+        ensures same { self.exit.now ≡ self.entry.now };
 
     // Sets one pair to a value.
     fn enter(&mut self, day: i32, element: i32, value: i32) -> Result<(), Refusal>
-        ensures answer { result ≡ unless (enter_refusal (grid self.old) (limit self.old) day element value) tt }
-        ensures after { grid self.new ≡ entered (grid self.old) (limit self.old) day element value }
-        ensures ceiling { limit self.new ≡ limit self.old };
+        ensures answer { result ≡ unless (enter_refusal (Self.grid self.old) (Self.limit self.old) day element value) tt }
+        ensures after { Self.grid self.new ≡ entered (Self.grid self.old) (Self.limit self.old) day element value }
+        ensures ceiling { Self.limit self.new ≡ Self.limit self.old };
 
     // Empties one pair.
     fn strike(&mut self, day: i32, element: i32) -> Result<(), Refusal>
-        ensures answer { result ≡ unless (strike_refusal (grid self.old) day element) tt }
-        ensures after { grid self.new ≡ struck (grid self.old) day element }
-        ensures ceiling { limit self.new ≡ limit self.old };
+        ensures answer { result ≡ unless (strike_refusal (Self.grid self.old) day element) tt }
+        ensures after { Self.grid self.new ≡ struck (Self.grid self.old) day element }
+        ensures ceiling { Self.limit self.new ≡ Self.limit self.old };
 }

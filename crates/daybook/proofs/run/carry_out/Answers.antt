@@ -1,4 +1,4 @@
-use Rattle.std.proofs.Common.{◌≡◌, ◌<◌, ◌≤◌, length, sym, refl, ◌∙◌, arith}
+use Rattle.std.proofs.Common.{◌<◌, ◌≤◌, length, sym, refl, ◌∙◌, arith}
 use Rattle.daybook.proofs.OnLaws.{runs_by}
 use Rattle.daybook.proofs.OnRuns.{log_more, standing_more, log_all, standing_all}
 use Rattle.daybook.proofs.run.carry_out.Goals as goal

@@ -1,10 +1,8 @@
-use Rattle.daybook.proofs.OnGrids.{filled_with, filled_below}
-use Rattle.daybook.proofs.OnCalls.{look_declined}
 use Rattle.daybook.proofs.OnCells.{grid_new, valid_new}
 use Rattle.daybook.proofs.grid_book.GridBook.new.Goals as goal
 
-pub invariant-of-result : goal.invariant-of-result
-invariant-of-result c = (valid_new, tt)
+pub invariant_of-result : goal.invariant_of-result
+invariant_of-result c = record { valid = valid_new }
 
 pub returns : goal.returns
 returns c = grid_new

@@ -7,12 +7,12 @@ use Rattle.daybook.proofs.OnCalls.{look_declined}
 use Rattle.daybook.proofs.OnGridBook.{cell_looked}
 use Rattle.daybook.proofs.grid_book.GridBookDaySource.look_up.Goals as goal
 
-pub returns-in-err-pair : goal.returns-in-err-pair
-returns-in-err-pair c =
+pub returns-in_err-pair : goal.returns-in_err-pair
+returns-in_err-pair c =
     let fd = c.ranges.day in
     let fe = c.ranges.element in
-    let e = err_from_is_err_and c.from-residual.result c.from-residual.ensures.1 in
-    let h = simp to_z-of_z at c.in-err-pair.ensures in
+    let e = err_from_is_err_and c.from_residual.result c.from_residual.ensures.1 in
+    let h = simp to_z-of_z at c.in_err-pair.ensures in
     let why = pair_declined c.args.day c.args.element _ h in
     record { answer = rw (e.1, e.2) (sym (look_declined _ _ _ _ why)); same = refl }
 
@@ -20,8 +20,8 @@ pub returns : goal.returns
 returns c =
     let fd = c.ranges.day in
     let fe = c.ranges.element in
-    let h = simp to_z-of_z at c.in-ok-pair.ensures in
-    let p = c.in-ok-pair.pair in
+    let h = simp to_z-of_z at c.in_ok-pair.ensures in
+    let p = c.in_ok-pair.pair in
     let pair = pair_taken c.args.day c.args.element p h in
     let cells = c.args.self.now.cells in
     let len : length cells ≡ pair_count = search rules in

@@ -10,51 +10,51 @@ use Rattle.daybook.proofs.OnCalls.{enter_declined, enter_value, entered_same}
 use Rattle.daybook.proofs.OnGridBook.{cell_room, cell_valid, cell_entered}
 use Rattle.daybook.proofs.grid_book.GridBookDaybook.enter.Goals as goal
 
-pub returns-in-err-pair : goal.returns-in-err-pair
-returns-in-err-pair c =
+pub returns-in_err-pair : goal.returns-in_err-pair
+returns-in_err-pair c =
     let fd = c.ranges.day in
     let fe = c.ranges.element in
-    let e = err_from_is_err_and c.from-residual.result c.from-residual.ensures.1 in
-    let h = simp to_z-of_z at c.in-err-pair.ensures in
+    let e = err_from_is_err_and c.from_residual.result c.from_residual.ensures.1 in
+    let h = simp to_z-of_z at c.in_err-pair.ensures in
     let why = enter_declined (grid_of c.args.self.now.cells) pair_count _ _ c.args.value _ (pair_declined c.args.day c.args.element _ h) in
     record { answer = rw (e.1, e.2, why); after = sym (entered_same _ _ _ _ _ _ why); ceiling = refl }
 
-pub returns-in-err-check-value : goal.returns-in-err-check-value
-returns-in-err-check-value c =
+pub returns-in_err-check_value : goal.returns-in_err-check_value
+returns-in_err-check_value c =
     let fd = c.ranges.day in
     let fe = c.ranges.element in
     let fv = c.ranges.value in
-    let e = err_from_is_err_and c.from-residual-in-err-check-value.result c.from-residual-in-err-check-value.ensures.1 in
-    let h = simp to_z-of_z at c.in-ok-pair.ensures in
-    let pair = pair_taken c.args.day c.args.element c.in-ok-pair.pair h in
-    let v = simp to_z-of_z at c.in-err-check-value.ensures in
-    let value : value_refusal c.args.element c.args.value ≡ Some c.in-err-check-value.field-0.0 = rw (← pair.2) (unless_err _ _ _ v) in
+    let e = err_from_is_err_and c.from_residual-in_err-check_value.result c.from_residual-in_err-check_value.ensures.1 in
+    let h = simp to_z-of_z at c.in_ok-pair.ensures in
+    let pair = pair_taken c.args.day c.args.element c.in_ok-pair.pair h in
+    let v = simp to_z-of_z at c.in_err-check_value.ensures in
+    let value : value_refusal c.args.element c.args.value ≡ Some c.in_err-check_value.field-0.0 = rw (← pair.2) (unless_err _ _ _ v) in
     let why = enter_value (grid_of c.args.self.now.cells) pair_count _ _ _ _ pair.0 value in
     record { answer = rw (e.1, e.2, why); after = sym (entered_same _ _ _ _ _ _ why); ceiling = refl }
 
-pub invariant-of-self : goal.invariant-of-self
-invariant-of-self c =
+pub invariant_of-self : goal.invariant_of-self
+invariant_of-self c =
     let fd = c.ranges.day in
     let fe = c.ranges.element in
     let fv = c.ranges.value in
-    let h = simp to_z-of_z at c.in-ok-pair.ensures in
-    let p = c.in-ok-pair.pair in
+    let h = simp to_z-of_z at c.in_ok-pair.ensures in
+    let p = c.in_ok-pair.pair in
     let pair = pair_taken c.args.day c.args.element p h in
-    let v = simp to_z-of_z at c.in-ok-check-value.ensures in
+    let v = simp to_z-of_z at c.in_ok-check_value.ensures in
     let value : value_refusal c.args.element c.args.value ≡ None = rw (← pair.2) (unless_ok _ _ _ v) in
     let cells = c.args.self.now.cells in
     let len : length cells ≡ pair_count = search rules in
-    (cell_valid cells len _ _ c.place.result p.day p.element p.day_from p.day_to pair.1 pair.2 c.place.ensures.value c.args.value _ (to_z-of_z w32 _ fv) value c.args.self.now.valid, tt)
+    record { valid = cell_valid cells len _ _ c.place.result p.day p.element p.day_from p.day_to pair.1 pair.2 c.place.ensures.value c.args.value _ (to_z-of_z w32 _ fv) value c.args.self.now.valid }
 
 pub returns : goal.returns
 returns c =
     let fd = c.ranges.day in
     let fe = c.ranges.element in
     let fv = c.ranges.value in
-    let h = simp to_z-of_z at c.in-ok-pair.ensures in
-    let p = c.in-ok-pair.pair in
+    let h = simp to_z-of_z at c.in_ok-pair.ensures in
+    let p = c.in_ok-pair.pair in
     let pair = pair_taken c.args.day c.args.element p h in
-    let v = simp to_z-of_z at c.in-ok-check-value.ensures in
+    let v = simp to_z-of_z at c.in_ok-check_value.ensures in
     let value : value_refusal c.args.element c.args.value ≡ None = rw (← pair.2) (unless_ok _ _ _ v) in
     let cells = c.args.self.now.cells in
     let len : length cells ≡ pair_count = search rules in

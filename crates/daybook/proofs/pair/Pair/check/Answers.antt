@@ -1,16 +1,14 @@
-use Rattle.std.proofs.Common.{arith, rules}
-use Rattle.std.proofs.lemmas.Bool.Decides.{nat_tests}
-use Rattle.std.proofs.lemmas.Int.{to_z-of_z, ints}
+use Rattle.std.proofs.Common.{rules}
 use Rattle.daybook.specs.Calls.{pair_refusal}
 use Rattle.daybook.proofs.pair.Pair.check.Goals as goal
 
-pub returns-in-err-day : goal.returns-in-err-day
+pub returns-in_err-day : goal.returns-in_err-day
 unfolding pair_refusal
-returns-in-err-day c = search rules
+returns-in_err-day c = search rules
 
-pub returns-in-err-element : goal.returns-in-err-element
+pub returns-in_err-element : goal.returns-in_err-element
 unfolding pair_refusal
-returns-in-err-element c = search rules
+returns-in_err-element c = search rules
 
 pub returns : goal.returns
 unfolding pair_refusal

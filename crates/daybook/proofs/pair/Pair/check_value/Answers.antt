@@ -1,4 +1,4 @@
-use Rattle.std.proofs.Common.{◌≡◌, true, false, pos, sym, refl, ap, ◌∙◌, w32}
+use Rattle.std.proofs.Common.{◌≡◌, true, false, pos, sym, ap, ◌∙◌, w32}
 use Rattle.std.proofs.lemmas.Int.{to_z-of_z}
 use Rattle.station.specs.Elements.{element_number, takes, in_range}
 use Rattle.station.proofs.OnElements.{range_of}
