@@ -1,10 +1,10 @@
 -- Where a key is found, and the entry of the one key that a test picks out. Assumes nothing.
-use Rattle.std.proofs.Common.{◌≡◌, ℕ, Bool, true, false, cond, not, ◌&&◌, List, [], ◌∷◌, ◌++◌, Some, None, Option, sym, refl, ap, ◌∙◌, subst, ⊎_elim, arith}
+use Rattle.std.proofs.Common.{◌≡◌, Bool, true, false, cond, not, List, [], ◌∷◌, Some, None, Option, sym, refl, ap, ◌∙◌, subst, ⊎_elim}
 use Rattle.std.proofs.lemmas.Bool.{and_parts, and_from, cases_Bool, both_ways}
 use Rattle.ordered_table.specs.declared.row.Row.{Row}
 use Rattle.ordered_table.specs.Rows.{found, placed, without, row_of, entry_where, rows_where}
 use Rattle.ordered_table.specs.Order.{same_key, each_key, rising, FoundAt}
-use Rattle.ordered_table.proofs.OnOrder.{Order, each_chain, each_apart, not_both, apart_left, apart_right}
+use Rattle.ordered_table.proofs.OnOrder.{Order, each_chain, each_apart, apart_left, apart_right}
 
 module _ {K E : Type 0} {lt : K → K → Bool} (o : Order lt) where
   -- ---- where a key is found

@@ -1,5 +1,5 @@
 -- A search from the first row on, and what a put or a removal at its place gives.
-use Rattle.std.proofs.Common.{◌≡◌, ℕ, zero, suc, ◌+◌, ◌-◌, ◌<◌, ◌≤◌, Bool, true, false, cond, ◌⊎◌, List, [], ◌∷◌, ◌++◌, length, get_or, take, drop, set, is_some, Some, None, Ok, Err, Option, Result, sym, refl, ap, ◌∙◌, subst, inl, inr, add_assoc, zero-add, add-one, one-add, arith, length-take, drop-cons}
+use Rattle.std.proofs.Common.{◌≡◌, ℕ, zero, suc, ◌+◌, ◌<◌, ◌≤◌, Bool, true, false, cond, List, [], ◌∷◌, length, get_or, take, drop, set, is_some, Some, None, Ok, Err, Result, sym, refl, ap, ◌∙◌, subst, add-one, one-add, arith, length-take, drop-cons}
 use lib.Seq.{drop-length}
 use Rattle.std.specs.List.{insert, remove}
 use Rattle.ordered_table.specs.declared.row.Row.{Row}

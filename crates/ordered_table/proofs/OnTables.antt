@@ -1,5 +1,5 @@
 -- What the used lines are once new rows stand before the rest.
-use Rattle.std.proofs.Common.{◌≡◌, ℕ, List, ◌++◌, length, take, drop, sym, ap, ◌∙◌, subst, ap₂, take-append-drop, take_at}
+use Rattle.std.proofs.Common.{◌≡◌, ℕ, List, ◌++◌, length, take, drop, sym, ap, ◌∙◌, ap₂, take-append-drop, take_at}
 use Rattle.ordered_table.proofs.OnSought.{take_held}
 
 module _ {T : Type 0} where

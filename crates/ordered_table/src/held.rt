@@ -9,7 +9,7 @@ use crate::shift::{insert_at, remove_at};
 
 pub(crate) fn find_in<K: Key, E: Copy>(lines: &[Row<K, E>], used: usize, key: K) -> Option<E>
     requires { used ≤ length lines.now }
-    ensures { result ≡ found below key (take used lines.now) }
+    ensures { result ≡ found K.below key (take used lines.now) }
 {
     match seek(lines, used, key) {
         Ok(i) => Some(lines[i].entry),
@@ -25,8 +25,8 @@ pub(crate) fn put_in<K: Key, E: Copy>(
     entry: E,
 ) -> Option<usize>
     requires { used ≤ length lines.old }
-    ensures answer { is_some result ≡ (is_some (found below key (take used lines.old)) || nat_lt used (length lines.old)) }
-    ensures after { MatchOption result (lines.new ≡ lines.old) (λ n. (n ≡ length (placed below (record { key = key; entry = entry }) (take used lines.old))) × (lines.new ≡ placed below (record { key = key; entry = entry }) (take used lines.old) ++ drop n lines.old)) }
+    ensures answer { is_some result ≡ (is_some (found K.below key (take used lines.old)) || nat_lt used (length lines.old)) }
+    ensures after { MatchOption result (lines.new ≡ lines.old) (λ n. (n ≡ length (placed K.below (record { key = key; entry = entry }) (take used lines.old))) × (lines.new ≡ placed K.below (record { key = key; entry = entry }) (take used lines.old) ++ drop n lines.old)) }
 {
     match seek(lines, used, key) {
         Ok(i) => {
@@ -50,9 +50,9 @@ pub(crate) fn remove_in<K: Key, E: Copy>(
     key: K,
 ) -> Option<usize>
     requires { used ≤ length lines.old }
-    ensures answer { is_some result ≡ is_some (found below key (take used lines.old)) }
-    ensures left { MatchOption result ((lines.new ≡ lines.old) × (without below key (take used lines.old) ≡ take used lines.old)) (λ n. n ≡ length (without below key (take used lines.old))) }
-    ensures after { lines.new ≡ without below key (take used lines.old) ++ (row_of below key (take used lines.old) ++ drop used lines.old) }
+    ensures answer { is_some result ≡ is_some (found K.below key (take used lines.old)) }
+    ensures left { MatchOption result ((lines.new ≡ lines.old) × (without K.below key (take used lines.old) ≡ take used lines.old)) (λ n. n ≡ length (without K.below key (take used lines.old))) }
+    ensures after { lines.new ≡ without K.below key (take used lines.old) ++ (row_of K.below key (take used lines.old) ++ drop used lines.old) }
 {
     match seek(lines, used, key) {
         Ok(i) => {

@@ -11,7 +11,7 @@ pub(crate) fn seek<K: Key, E: Copy>(
     key: K,
 ) -> Result<usize, usize>
     requires { used ≤ length lines.now }
-    ensures is { result ≡ sought below key (take used lines.now) }
+    ensures is { result ≡ sought K.below key (take used lines.now) }
     ensures inside { MatchResult result (λ i. i < used) (λ i. i ≤ used) }
 {
     for i in 0..used {

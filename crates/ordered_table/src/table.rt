@@ -40,8 +40,8 @@ impl<'a, K: Key, E: Copy> Table<'a, K, E> {
 
     // The entry of a key.
     pub fn find(&self, key: K) -> Option<E>
-        ensures answer { result ≡ found below key (rows self.now) }
-        ensures map { rising below (rows self.now) ≡ true → FoundAt below key (rows self.now) result }
+        ensures answer { result ≡ found K.below key (rows self.now) }
+        ensures map { rising K.below (rows self.now) ≡ true → FoundAt K.below key (rows self.now) result }
     {
         let used = self.len();
         find_in(self.lines, used, key)
@@ -49,12 +49,12 @@ impl<'a, K: Key, E: Copy> Table<'a, K, E> {
 
     // Puts an entry in its key's place, instead of that key's entry if it has one; false if it has none and no line is free.
     pub fn put(&mut self, key: K, entry: E) -> bool
-        ensures answer { result ≡ (is_some (found below key (rows self.old)) || nat_lt (length (rows self.old)) (room self.old)) }
-        ensures rows { rows self.new ≡ (if result then placed below (record { key = key; entry = entry }) (rows self.old) else rows self.old) }
+        ensures answer { result ≡ (is_some (found K.below key (rows self.old)) || nat_lt (length (rows self.old)) (room self.old)) }
+        ensures rows { rows self.new ≡ (if result then placed K.below (record { key = key; entry = entry }) (rows self.old) else rows self.old) }
         ensures lines { all_lines self.new ≡ rows self.new ++ drop (length (rows self.new)) (all_lines self.old) }
         ensures room { room self.new ≡ room self.old }
         ensures lender { self.new.lines.ghost_name ≡ self.old.lines.ghost_name }
-        ensures map { rising below (rows self.old) ≡ true → result ≡ true → MapSet below key (Some entry) (rows self.old) (rows self.new) }
+        ensures map { rising K.below (rows self.old) ≡ true → result ≡ true → MapSet K.below key (Some entry) (rows self.old) (rows self.new) }
     {
         let used = self.len();
         match put_in(self.lines, used, key, entry) {
@@ -68,12 +68,12 @@ impl<'a, K: Key, E: Copy> Table<'a, K, E> {
 
     // Takes a key's row out, which is left on the line that becomes free; false if the key has none.
     pub fn remove(&mut self, key: K) -> bool
-        ensures answer { result ≡ is_some (found below key (rows self.old)) }
-        ensures rows { rows self.new ≡ without below key (rows self.old) }
-        ensures lines { all_lines self.new ≡ rows self.new ++ (row_of below key (rows self.old) ++ drop (length (rows self.old)) (all_lines self.old)) }
+        ensures answer { result ≡ is_some (found K.below key (rows self.old)) }
+        ensures rows { rows self.new ≡ without K.below key (rows self.old) }
+        ensures lines { all_lines self.new ≡ rows self.new ++ (row_of K.below key (rows self.old) ++ drop (length (rows self.old)) (all_lines self.old)) }
         ensures room { room self.new ≡ room self.old }
         ensures lender { self.new.lines.ghost_name ≡ self.old.lines.ghost_name }
-        ensures map { rising below (rows self.old) ≡ true → MapSet below key None (rows self.old) (rows self.new) }
+        ensures map { rising K.below (rows self.old) ≡ true → MapSet K.below key None (rows self.old) (rows self.new) }
     {
         let used = self.len();
         match remove_in(self.lines, used, key) {

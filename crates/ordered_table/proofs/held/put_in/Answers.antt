@@ -32,6 +32,6 @@ returns-else-used-lines g c =
       answer = rw (s.1, f);
       after = (
         sym (ap length e ∙ inserted_length c.args.lines.now c.in-Err.i c.args.used _ c.in-Err.ensures.inside c.requires),
-        c.insert-at.ensures ∙ sym (ap (λ z. z ++ drop (c.args.used + 1) c.args.lines.now) e),
+        c.insert_at.ensures ∙ sym (ap (λ z. z ++ drop (c.args.used + 1) c.args.lines.now) e),
       );
     }

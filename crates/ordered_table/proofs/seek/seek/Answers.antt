@@ -1,4 +1,4 @@
-use Rattle.std.proofs.Common.{◌≡◌, ◌<◌, length, get_or, take, sym, refl, ◌∙◌, subst, arith, length-take-le, get_or-take, rules}
+use Rattle.std.proofs.Common.{◌≡◌, ◌<◌, length, take, sym, ◌∙◌, subst, arith, length-take-le, get_or-take, rules}
 use Rattle.ordered_table.proofs.OnSought.{passed_none, passed_more, passed_under, passed_equal, passed_all, Passed}
 use Rattle.ordered_table.proofs.seek.seek.Goals as goal
 
