@@ -3,4 +3,4 @@ use Rattle.rounding.proofs.deviation.nearest_root.Goals as goal
 
 pub returns : goal.returns
 returns c =
-    root_deviates c.args.divisor c.args.scatter c.isqrt.result c.requires.0 c.isqrt.ensures.square_le c.isqrt.ensures.next-square-gt
+    root_deviates c.args.divisor c.args.scatter c.isqrt.result c.requires.divisor_nonzero c.isqrt.ensures.square_le c.isqrt.ensures.next_square_gt

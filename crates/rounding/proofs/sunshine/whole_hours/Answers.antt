@@ -4,4 +4,4 @@ use Rattle.rounding.proofs.sunshine.whole_hours.Goals as goal
 
 pub returns : goal.returns
 unfolding whole_hours
-returns c = record { value = c.half-up.ensures; law = hours_by c.args.tenths c.half-up.result c.half-up.ensures }
+returns c = record { value = c.half_up.ensures; law = hours_by c.args.tenths c.half_up.result c.half_up.ensures }

@@ -3,8 +3,8 @@ use Rattle.text.proofs.OnDigits.{bars_undo}
 use Rattle.text.proofs.OnNumbers.{no_bars, bar_read, bar_missing, all_bars_read}
 use Rattle.text.proofs.number.is_bars.Goals as goal
 
-pub returns-then-bytes-lt-LEAST-WIDTH : goal.returns-then-bytes-lt-LEAST-WIDTH
-returns-then-bytes-lt-LEAST-WIDTH c = record { value = no_bars c.args.bytes.now (omega arith); law = bars_undo }
+pub returns-then-bytes-lt-LEAST_WIDTH : goal.returns-then-bytes-lt-LEAST_WIDTH
+returns-then-bytes-lt-LEAST_WIDTH c = record { value = no_bars c.args.bytes.now (omega arith); law = bars_undo }
 
 pub returns-then-byte-ne-BAR : goal.returns-then-byte-ne-BAR
 returns-then-byte-ne-BAR c = record {

@@ -8,7 +8,7 @@ loop-passed-init c = none_written c.args.self.now
 
 pub loop-passed-preserved : goal.loop-passed-preserved
 loop-passed-preserved c =
-    digits_more (text_of c.args.self.now) c.args.width c.args.number c.loop-passed.passed c.digit-at.result c.loop-passed-test.true c.digit-at.ensures c.loop-passed.invariant c.push.ensures
+    digits_more (text_of c.args.self.now) c.args.width c.args.number c.loop-passed.passed c.digit_at.result c.loop-passed-test.true c.digit_at.ensures c.loop-passed.invariant c.push.ensures
 
 pub returns : goal.returns
 returns c =
