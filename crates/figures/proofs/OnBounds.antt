@@ -1,5 +1,5 @@
 -- How large the sums of a month's values get. Assumes nothing.
-use Rattle.std.proofs.Common.{◌≡◌, ℕ, zero, suc, ◌+◌, ◌*◌, ◌<◌, ◌≤◌, Bool, true, false, cond, ◌&&◌, ℤ, pos, negsuc, ◌+ℤ◌, ◌*ℤ◌, nat_abs, ◌≤ℤ◌, is_some, Some, None, Option, sym, refl, ap, ◌∙◌, subst, zero-add, one-add, arith}
+use Rattle.std.proofs.Common.{◌≡◌, ℕ, zero, suc, ◌+◌, true, cond, ℤ, pos, ◌+ℤ◌, ◌*ℤ◌, ◌≤ℤ◌, is_some, Some, None, Option, refl, zero-add, one-add, arith}
 use lib.IntN.{zero-*ℤ, suc_ℤ-*ℤ}
 use lib.Signed.{le_z}
 use Rattle.std.proofs.lemmas.Int.{ints}
@@ -8,7 +8,7 @@ use Rattle.std.proofs.lemmas.Bool.Decides.{nat_tests}
 use Rattle.station.specs.declared.element.Element.{Element}
 use Rattle.station.specs.Elements.{lowest_of, highest_of, takes}
 use Rattle.daybook.specs.Grid.{Grid, Valid}
-use Rattle.columns.specs.Columns.{Column, column, amount, empties, present, sum}
+use Rattle.columns.specs.Columns.{Column, column, amount, present, sum}
 use Rattle.columns.proofs.OnColumns.{value_takes}
 
 -- ---- the sum lies between as many lowest values and as many highest

@@ -1,5 +1,5 @@
 -- When a mean is shown, and what it is. Assumes nothing.
-use Rattle.std.proofs.Common.{◌≡◌, ℕ, zero, suc, ◌+◌, ◌*◌, ◌<◌, ◌≤◌, Bool, true, false, cond, leb, ℤ, pos, ◌+ℤ◌, nat_abs, is_some, Some, None, Option, sym, refl, ap, ◌∙◌, subst, ⊎_elim, arith}
+use Rattle.std.proofs.Common.{◌≡◌, ℕ, zero, suc, ◌+◌, ◌*◌, ◌<◌, ◌≤◌, true, cond, ℤ, pos, ◌+ℤ◌, nat_abs, is_some, Some, None, Option, sym, refl, ◌∙◌, subst, arith}
 use Rattle.std.proofs.lemmas.Int.{ints}
 use Rattle.std.proofs.lemmas.Bool.{le-leb, lt-leb, both_ways, cond-true, cond-false}
 use Rattle.station.specs.declared.element.Element.{Element}
@@ -8,8 +8,8 @@ use Rattle.station.specs.Elements.{takes}
 use Rattle.daybook.specs.Grid.{Grid, Valid}
 use Rattle.columns.specs.Columns.{Column, column, amount, square, empties, present, sum, squares}
 use Rattle.columns.proofs.OnColumns.{every_day}
-use Rattle.rounding.specs.Means.{mean_of, Nearest, MeanLaw, Averaged}
-use Rattle.rounding.specs.Deviations.{least_days, most_days, farthest, deviation_of, keeps_bounds, Deviated, SumsHold}
+use Rattle.rounding.specs.Means.{mean_of, MeanLaw, Averaged}
+use Rattle.rounding.specs.Deviations.{most_days, farthest, deviation_of, keeps_bounds, Deviated, SumsHold}
 use Rattle.rounding.proofs.OnDeviations.{sums_grow}
 use Rattle.figures.specs.Means.{most_empty, is_averaged, mean_shown, IsMean, MeanOf, deviation_shown, IsDeviation, DeviationOf}
 use Rattle.figures.proofs.OnShown.{hidden, shown_by}

@@ -1,5 +1,5 @@
 -- Figures that are shown, and figures that are not. Assumes nothing.
-use Rattle.std.proofs.Common.{◌≡◌, Bool, true, false, Some, None, sym, ap, ◌∙◌, subst, arith}
+use Rattle.std.proofs.Common.{◌≡◌, Bool, true, false, Some, None, sym, ◌∙◌, subst, arith}
 use Rattle.figures.specs.Shown.{Shown}
 
 module _ {X : Type 0} (condition : Bool) (Is : X → Type 0) where

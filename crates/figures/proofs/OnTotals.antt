@@ -1,11 +1,11 @@
 -- When a total is shown, and what it is. Assumes nothing.
-use Rattle.std.proofs.Common.{◌≡◌, ℕ, ◌+◌, ◌*◌, ◌<◌, ◌≤◌, Bool, true, false, cond, ℤ, pos, ◌*ℤ◌, nat_abs, ◌≤ℤ◌, Some, None, Option, sym, refl, ap, ◌∙◌, subst, arith}
+use Rattle.std.proofs.Common.{◌≡◌, ℕ, ◌<◌, ◌≤◌, Bool, true, false, cond, pos, ◌*ℤ◌, Some, None, sym, refl, ap, ◌∙◌, subst, arith}
 use lib.IntN.{*ℤ-zero, pos-*ℤ-pos}
 use Rattle.std.proofs.lemmas.Int.{ints}
 use Rattle.std.proofs.lemmas.Bool.{eq-eqb, ne_eqb, cond-true, cond-false}
 use Rattle.station.specs.declared.element.Element.{Element}
 use Rattle.station.specs.declared.element.Element.TheVariants.{Rain, Sunshine}
-use Rattle.station.specs.Elements.{lowest_of, highest_of}
+use Rattle.station.specs.Elements.{lowest_of}
 use Rattle.daybook.specs.Grid.{Grid, Valid}
 use Rattle.columns.specs.Columns.{Column, column, empties, present, sum}
 use Rattle.columns.proofs.OnColumns.{every_day}

@@ -1,5 +1,5 @@
 -- Missing days, and days that are counted.
-use Rattle.std.specs.Prelude.{◌≡◌, ℕ, min, max, Bool, cond, ℤ, Some, None, Option, ◌==◌}
+use Rattle.std.specs.Prelude.{ℕ, min, max, Bool, cond, ℤ, Some, None, Option, ◌==◌}
 use Rattle.station.specs.declared.element.Element.TheVariants.{StationPressure, SeaLevelPressure}
 use Rattle.daybook.specs.Grid.{Grid}
 use Rattle.columns.specs.Columns.{Column, column, empties}

@@ -1,5 +1,5 @@
 -- Worked examples of the figures.
-use Rattle.std.specs.Prelude.{◌≡◌, ℕ, cond, ℤ, pos, negsuc, Some, None, ◌==◌, nat_le}
+use Rattle.std.specs.Prelude.{◌≡◌, ℕ, cond, pos, negsuc, Some, None, ◌==◌, nat_le}
 use Rattle.station.specs.Calendar.{month_length}
 use Rattle.columns.specs.Columns.{Column}
 use Rattle.rounding.specs.Rain.{rain_code}

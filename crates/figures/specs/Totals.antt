@@ -1,5 +1,5 @@
 -- Totals of rain and of sunshine.
-use Rattle.std.specs.Prelude.{◌≡◌, ℕ, ◌≤◌, cond, ℤ, pos, Some, None, Option, unsigned_abs}
+use Rattle.std.specs.Prelude.{◌≡◌, ℕ, ◌≤◌, cond, pos, Some, None, Option, unsigned_abs}
 use Rattle.columns.specs.Columns.{Column, sum}
 use Rattle.rounding.specs.Rain.{rain_code, StandsFor}
 use Rattle.rounding.specs.Sunshine.{whole_hours, Hours, percentage_of, Percentage}

@@ -18,10 +18,10 @@ const MOST_EMPTY: u8 = 3;
 
 // The mean of an element over the month; none where more than three days are empty.
 pub fn mean<S: DaySource>(source: &S, element: Element, month: CalendarMonth) -> Option<i32>
-    ensures value { result ≡ mean_shown (column (grid source.now) element) (days_of month) }
-    ensures law { MeanOf element (column (grid source.now) element) (days_of month) result }
+    ensures value { result ≡ mean_shown (column (S.grid source.now) element) (days_of month) }
+    ensures law { MeanOf element (column (S.grid source.now) element) (days_of month) result }
     ensures examples { Examples }
-    ensures same { source.now ≡ source.now }
+    ensures same { source.exit.now ≡ source.entry.now }
 {
     let tally = tally(source, element, month.length());
     if tally.empties > MOST_EMPTY {
@@ -32,9 +32,9 @@ pub fn mean<S: DaySource>(source: &S, element: Element, month: CalendarMonth) ->
 
 // The standard deviation of the month's mean temperatures, in tenths; none where their mean is not shown.
 pub fn temperature_deviation<S: DaySource>(source: &S, month: CalendarMonth) -> Option<u16>
-    ensures value { result ≡ deviation_shown (column (grid source.now) MeanTemperature) (days_of month) }
-    ensures law { DeviationOf (column (grid source.now) MeanTemperature) (days_of month) result }
-    ensures same { source.now ≡ source.now }
+    ensures value { result ≡ deviation_shown (column (S.grid source.now) MeanTemperature) (days_of month) }
+    ensures law { DeviationOf (column (S.grid source.now) MeanTemperature) (days_of month) result }
+    ensures same { source.exit.now ≡ source.entry.now }
 {
     let tally = tally(source, Element::MeanTemperature, month.length());
     if tally.empties > MOST_EMPTY {

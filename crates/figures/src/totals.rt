@@ -16,9 +16,9 @@ const NONE_EMPTY: u8 = 0;
 
 // The month's rain in four digits; none where a day is empty.
 pub fn rain_total<S: DaySource>(source: &S, month: CalendarMonth) -> Option<u16>
-    ensures value { result ≡ rain_shown (column (grid source.now) Rain) (days_of month) }
-    ensures law { RainOf (column (grid source.now) Rain) (days_of month) result }
-    ensures same { source.now ≡ source.now }
+    ensures value { result ≡ rain_shown (column (S.grid source.now) Rain) (days_of month) }
+    ensures law { RainOf (column (S.grid source.now) Rain) (days_of month) result }
+    ensures same { source.exit.now ≡ source.entry.now }
 {
     match complete_total(source, Element::Rain, month) {
         Some(tenths) => Some(rain_code(tenths)),
@@ -28,9 +28,9 @@ pub fn rain_total<S: DaySource>(source: &S, month: CalendarMonth) -> Option<u16>
 
 // The month's sunshine in whole hours; none where a day is empty.
 pub fn sunshine_total<S: DaySource>(source: &S, month: CalendarMonth) -> Option<u32>
-    ensures value { result ≡ sunshine_shown (column (grid source.now) Sunshine) (days_of month) }
-    ensures law { SunshineOf (column (grid source.now) Sunshine) (days_of month) result }
-    ensures same { source.now ≡ source.now }
+    ensures value { result ≡ sunshine_shown (column (S.grid source.now) Sunshine) (days_of month) }
+    ensures law { SunshineOf (column (S.grid source.now) Sunshine) (days_of month) result }
+    ensures same { source.exit.now ≡ source.entry.now }
 {
     match complete_total(source, Element::Sunshine, month) {
         Some(tenths) => Some(whole_hours(tenths)),
@@ -44,9 +44,9 @@ pub fn sunshine_percentage<S: DaySource>(
     month: CalendarMonth,
     normal: Option<u32>,
 ) -> Option<u16>
-    ensures value { result ≡ percentage_shown (column (grid source.now) Sunshine) (days_of month) normal }
-    ensures law { PercentageShown (column (grid source.now) Sunshine) (days_of month) normal result }
-    ensures same { source.now ≡ source.now }
+    ensures value { result ≡ percentage_shown (column (S.grid source.now) Sunshine) (days_of month) normal }
+    ensures law { PercentageShown (column (S.grid source.now) Sunshine) (days_of month) normal result }
+    ensures same { source.exit.now ≡ source.entry.now }
 {
     let Some(hours) = normal else {
         return None;
@@ -59,8 +59,8 @@ pub fn sunshine_percentage<S: DaySource>(
 
 // The total of an element over the month; none where a day is empty.
 fn complete_total<S: DaySource>(source: &S, element: Element, month: CalendarMonth) -> Option<u32>
-    ensures value { result ≡ total_shown (column (grid source.now) element) (days_of month) }
-    ensures same { source.now ≡ source.now }
+    ensures value { result ≡ total_shown (column (S.grid source.now) element) (days_of month) }
+    ensures same { source.exit.now ≡ source.entry.now }
 {
     let tally = tally(source, element, month.length());
     if tally.empties > NONE_EMPTY {

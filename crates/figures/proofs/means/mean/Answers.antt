@@ -1,4 +1,4 @@
-use Rattle.std.proofs.Common.{◌≡◌, sym, refl, ap, ◌∙◌, subst, arith, w32, SFits, rules}
+use Rattle.std.proofs.Common.{◌≡◌, refl, ap, ◌∙◌, subst, arith, w32, SFits, rules}
 use Rattle.std.proofs.lemmas.Int.{to_z-of_z}
 use Rattle.columns.specs.declared.tally.Tally.{Tally}
 use Rattle.columns.specs.Columns.{column, present, sum, tally_of}
@@ -8,8 +8,8 @@ use Rattle.figures.proofs.OnMeans.{mean_hidden, mean_there, hidden_mean, mean_la
 use Rattle.figures.proofs.OnExamples.{examples}
 use Rattle.figures.proofs.means.mean.Goals as goal
 
-pub returns-then-tally-gt-MOST-EMPTY : goal.returns-then-tally-gt-MOST-EMPTY
-returns-then-tally-gt-MOST-EMPTY g c =
+pub returns-then-tally-gt-MOST_EMPTY : goal.returns-then-tally-gt-MOST_EMPTY
+returns-then-tally-gt-MOST_EMPTY g c =
     let f = column (g.S.DaySource.grid c.args.source.now) c.args.element in
     let t = c.tally-tally.ensures.value ∙ ap (tally_of f) c.length.ensures.value in
     let few = ap (λ u. u.empties) t in

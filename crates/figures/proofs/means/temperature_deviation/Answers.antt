@@ -8,8 +8,8 @@ use Rattle.station.specs.Months.{days_of}
 use Rattle.figures.proofs.OnMeans.{deviation_hidden, deviation_there, hidden_deviation, deviation_law}
 use Rattle.figures.proofs.means.temperature_deviation.Goals as goal
 
-pub returns-then-tally-gt-MOST-EMPTY : goal.returns-then-tally-gt-MOST-EMPTY
-returns-then-tally-gt-MOST-EMPTY g c =
+pub returns-then-tally-gt-MOST_EMPTY : goal.returns-then-tally-gt-MOST_EMPTY
+returns-then-tally-gt-MOST_EMPTY g c =
     let f = column (g.S.DaySource.grid c.args.source.now) MeanTemperature in
     let t = c.tally-tally.ensures.value ∙ ap (tally_of f) c.length.ensures.value in
     let few = ap (λ u. u.empties) t in

@@ -12,8 +12,8 @@ returns-in-Some g c =
     let d = days_of c.args.month in
     let t = total_given (column grid Rain) d c.in-Some.tenths c.in-Some.ensures.value in
     record {
-      value = rain_there grid valid d c.in-Some.tenths c.rain-code.result t.0 t.1 c.rain-code.ensures.value;
-      law = rain_law grid valid d c.in-Some.tenths c.rain-code.result t.0 t.1 c.rain-code.ensures.law;
+      value = rain_there grid valid d c.in-Some.tenths c.rain_code.result t.0 t.1 c.rain_code.ensures.value;
+      law = rain_law grid valid d c.in-Some.tenths c.rain_code.result t.0 t.1 c.rain_code.ensures.law;
       same = refl;
     }
 

@@ -13,8 +13,8 @@ returns-in-Some g c =
     let d = days_of c.args.month in
     let t = total_given (column grid Sunshine) d c.in-Some.tenths c.in-Some.ensures.value in
     record {
-      value = sunshine_there grid valid d c.in-Some.tenths c.whole-hours.result t.0 t.1 c.whole-hours.ensures.value;
-      law = sunshine_law grid valid d c.in-Some.tenths c.whole-hours.result (length_most c.args.month.year c.args.month.month) t.0 t.1 c.whole-hours.ensures.law;
+      value = sunshine_there grid valid d c.in-Some.tenths c.whole_hours.result t.0 t.1 c.whole_hours.ensures.value;
+      law = sunshine_law grid valid d c.in-Some.tenths c.whole_hours.result (length_most c.args.month.year c.args.month.month) t.0 t.1 c.whole_hours.ensures.law;
       same = refl;
     }
 
