@@ -1,5 +1,5 @@
 -- What a put and a removal of a pair's row come to as an entry and a strike. Assumes nothing.
-use Rattle.std.proofs.Common.{◌≡◌, ℕ, ◌<◌, ◌≤◌, min, Bool, true, false, cond, ◌&&◌, ◌||◌, ltb, List, [], ◌∷◌, ◌++◌, length, take, drop, ℤ, pos, is_some, Some, None, Option, sym, refl, ap, ◌∙◌, subst, ⊎_elim, arith}
+use Rattle.std.proofs.Common.{◌≡◌, ℕ, ◌<◌, ◌≤◌, min, Bool, true, false, cond, ◌||◌, ltb, List, ◌++◌, length, take, drop, ℤ, pos, is_some, Some, None, sym, refl, ap, ◌∙◌, subst, ⊎_elim, arith}
 use Rattle.std.proofs.lemmas.Bool.{and_parts, and_from, or_cases, or_parts, cases_Bool, ltb-true, ltb-false, cond_both}
 use Rattle.station.specs.declared.refusal.Refusal.{Refusal}
 use Rattle.station.specs.declared.refusal.Refusal.TheVariants.{Full, Empty}
@@ -8,11 +8,11 @@ use Rattle.station.specs.Elements.{element_number}
 use Rattle.station.proofs.OnElements.{number_bounds}
 use Rattle.station.proofs.OnNumbers.{same_true}
 use Rattle.station.proofs.OnRefusals.{passed}
-use Rattle.daybook.specs.Grid.{Grid, with_pair, valid_at, Valid, filled, pair_count}
+use Rattle.daybook.specs.Grid.{valid_at, Valid, pair_count}
 use Rattle.daybook.specs.Calls.{pair_refusal, value_refusal, enter_refusal, strike_refusal, entered, struck}
 use Rattle.daybook.proofs.OnPairs.{pair_there, day_there}
 use Rattle.daybook.proofs.OnGrids.{valid_with, filled_below}
-use Rattle.daybook.proofs.OnCalls.{enter_again, enter_new, enter_full, entered_same, entered_sets, strike_empty, strike_taken, struck_same, struck_empties}
+use Rattle.daybook.proofs.OnCalls.{enter_again, enter_new, enter_full, entered_sets, strike_empty, strike_taken, struck_empties}
 use Rattle.ordered_table.specs.declared.row.Row.{Row}
 use Rattle.ordered_table.specs.Rows.{found, placed, without, row_of, rows_where}
 use Rattle.ordered_table.specs.Order.{rising}

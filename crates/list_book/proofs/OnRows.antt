@@ -1,11 +1,10 @@
 -- What rows of pairs stand for, and what a put and a removal change. Assumes nothing.
-use Rattle.std.proofs.Common.{◌≡◌, ℕ, ◌+◌, ◌<◌, ◌≤◌, Bool, true, false, cond, ◌&&◌, List, [], ◌∷◌, length, ℤ, pos, is_some, Some, None, Option, sym, refl, ap, ◌∙◌, subst, ap₂, arith}
+use Rattle.std.proofs.Common.{◌≡◌, ℕ, true, List, [], ◌∷◌, length, ℤ, pos, Some, None, sym, refl, subst, arith}
 use mathlib.Core.Path.{fun_ext}
 use Rattle.std.proofs.lemmas.Bool.{and_parts, and_from}
-use Rattle.station.specs.Numbers.{same}
 use Rattle.station.specs.Elements.{element_number}
 use Rattle.station.proofs.OnElements.{number_bounds}
-use Rattle.daybook.specs.Grid.{Grid, empty_grid, with_pair, Valid, filled}
+use Rattle.daybook.specs.Grid.{empty_grid, with_pair, Valid, filled}
 use Rattle.daybook.proofs.OnGrids.{same_self, valid_empty, filled_none, filled_with}
 use Rattle.ordered_table.specs.declared.row.Row.{Row}
 use Rattle.ordered_table.specs.Rows.{found, placed, without, entry_where}

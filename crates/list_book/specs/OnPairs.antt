@@ -1,5 +1,5 @@
 -- The order of pairs is a total one, and a day and an element's number belong to one pair. Assumes nothing.
-use Rattle.std.specs.Prelude.{◌≡◌, ℕ, ◌≤◌, true, false, ℤ, pos, Some, refl}
+use Rattle.std.specs.Prelude.{◌≡◌, ◌≤◌, true, ℤ, pos, Some}
 use Rattle.std.proofs.Common.{sym, ap, ◌∙◌, arith}
 use mathlib.Core.HLevel.{is_prop→PathP}
 use Rattle.std.proofs.Math.Bridge.{le_prop}

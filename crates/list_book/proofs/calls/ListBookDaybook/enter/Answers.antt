@@ -1,4 +1,4 @@
-use Rattle.std.proofs.Common.{◌≡◌, min, true, Some, None, sym, refl, ap, ◌∙◌}
+use Rattle.std.proofs.Common.{◌≡◌, min, Some, None, sym, refl, ap, ◌∙◌}
 use Rattle.std.proofs.lemmas.Int.{to_z-of_z}
 use Rattle.std.proofs.lemmas.Result.{err_from_is_err_and}
 use Rattle.std.proofs.lemmas.Bool.{cond-false}
@@ -15,57 +15,57 @@ use Rattle.list_book.specs.Book.{book_grid, book_ceiling}
 use Rattle.list_book.proofs.OnCalls.{enter_room, enter_no_room, put_sorted, put_valid, put_entered}
 use Rattle.list_book.proofs.calls.ListBookDaybook.enter.Goals as goal
 
-pub returns-in-err-pair : goal.returns-in-err-pair
-returns-in-err-pair c =
+pub returns-in_err-pair : goal.returns-in_err-pair
+returns-in_err-pair c =
     let fd = c.ranges.day in
     let fe = c.ranges.element in
-    let e = err_from_is_err_and c.from-residual.result c.from-residual.ensures.1 in
-    let h = simp to_z-of_z at c.in-err-pair.ensures in
+    let e = err_from_is_err_and c.from_residual.result c.from_residual.ensures.1 in
+    let h = simp to_z-of_z at c.in_err-pair.ensures in
     let b = c.args.self.now in
     let why = enter_declined (book_grid b) (book_ceiling b) _ _ c.args.value _ (pair_declined c.args.day c.args.element _ h) in
     record { answer = rw (e.1, e.2, why); after = sym (entered_same _ _ _ _ _ _ why); ceiling = refl; lines = unchanged b.table.lines.now _ b.table.used refl; lender = refl }
 
-pub returns-in-err-check-value : goal.returns-in-err-check-value
-returns-in-err-check-value c =
+pub returns-in_err-check_value : goal.returns-in_err-check_value
+returns-in_err-check_value c =
     let fd = c.ranges.day in
     let fe = c.ranges.element in
     let fv = c.ranges.value in
-    let e = err_from_is_err_and c.from-residual-in-err-check-value.result c.from-residual-in-err-check-value.ensures.1 in
-    let h = simp to_z-of_z at c.in-ok-pair.ensures in
-    let pair = pair_taken c.args.day c.args.element c.in-ok-pair.pair h in
-    let v = simp to_z-of_z at c.in-err-check-value.ensures in
-    let value : value_refusal c.args.element c.args.value ≡ Some c.in-err-check-value.field-0.0 = rw (← pair.2) (unless_err _ _ _ v) in
+    let e = err_from_is_err_and c.from_residual-in_err-check_value.result c.from_residual-in_err-check_value.ensures.1 in
+    let h = simp to_z-of_z at c.in_ok-pair.ensures in
+    let pair = pair_taken c.args.day c.args.element c.in_ok-pair.pair h in
+    let v = simp to_z-of_z at c.in_err-check_value.ensures in
+    let value : value_refusal c.args.element c.args.value ≡ Some c.in_err-check_value.field-0.0 = rw (← pair.2) (unless_err _ _ _ v) in
     let b = c.args.self.now in
     let why = enter_value (book_grid b) (book_ceiling b) _ _ _ _ pair.0 value in
     record { answer = rw (e.1, e.2, why); after = sym (entered_same _ _ _ _ _ _ why); ceiling = refl; lines = unchanged b.table.lines.now _ b.table.used refl; lender = refl }
 
-pub invariant-of-self : goal.invariant-of-self
-invariant-of-self c =
+pub invariant_of-self : goal.invariant_of-self
+invariant_of-self c =
     let fd = c.ranges.day in
     let fe = c.ranges.element in
     let fv = c.ranges.value in
-    let h = simp to_z-of_z at c.in-ok-pair.ensures in
-    let pair = pair_taken c.args.day c.args.element c.in-ok-pair.pair h in
-    let v = simp to_z-of_z at c.in-ok-check-value.ensures in
+    let h = simp to_z-of_z at c.in_ok-pair.ensures in
+    let pair = pair_taken c.args.day c.args.element c.in_ok-pair.pair h in
+    let v = simp to_z-of_z at c.in_ok-check_value.ensures in
     let value : value_refusal c.args.element c.args.value ≡ None = rw (← pair.2) (unless_ok _ _ _ v) in
     let b = c.args.self.now in
-    let k : PairKey = record { pair = c.in-ok-pair.pair } in
-    let f = simp to_z-of_z at c.put.ensures.rows in (
-      put_sorted (rows b.table) b.sorted _ _ k pair.1 pair.2 c.args.value c.put.result (rows c.put.new.self) f,
-      (put_valid (rows b.table) b.sorted _ _ k pair.1 pair.2 c.args.value c.put.result (rows c.put.new.self) value b.valid f, tt),
-    )
+    let k : PairKey = record { pair = c.in_ok-pair.pair } in
+    let f = simp to_z-of_z at c.put.ensures.rows in record {
+      sorted = put_sorted (rows b.table) b.sorted _ _ k pair.1 pair.2 c.args.value c.put.result (rows c.put.new.self) f;
+      valid = put_valid (rows b.table) b.sorted _ _ k pair.1 pair.2 c.args.value c.put.result (rows c.put.new.self) value b.valid f;
+    }
 
 pub returns-then-put : goal.returns-then-put
 returns-then-put c =
     let fd = c.ranges.day in
     let fe = c.ranges.element in
     let fv = c.ranges.value in
-    let h = simp to_z-of_z at c.in-ok-pair.ensures in
-    let pair = pair_taken c.args.day c.args.element c.in-ok-pair.pair h in
-    let v = simp to_z-of_z at c.in-ok-check-value.ensures in
+    let h = simp to_z-of_z at c.in_ok-pair.ensures in
+    let pair = pair_taken c.args.day c.args.element c.in_ok-pair.pair h in
+    let v = simp to_z-of_z at c.in_ok-check_value.ensures in
     let value : value_refusal c.args.element c.args.value ≡ None = rw (← pair.2) (unless_ok _ _ _ v) in
     let b = c.args.self.now in
-    let k : PairKey = record { pair = c.in-ok-pair.pair } in
+    let k : PairKey = record { pair = c.in_ok-pair.pair } in
     let f = simp to_z-of_z at c.put.ensures.rows in
     let free = enter_room (rows b.table) b.sorted _ _ k pair.1 pair.2 c.args.value (room b.table) value (sym c.put.ensures.answer ∙ c.if-put.true) in
     record {
@@ -81,12 +81,12 @@ returns-else-put c =
     let fd = c.ranges.day in
     let fe = c.ranges.element in
     let fv = c.ranges.value in
-    let h = simp to_z-of_z at c.in-ok-pair.ensures in
-    let pair = pair_taken c.args.day c.args.element c.in-ok-pair.pair h in
-    let v = simp to_z-of_z at c.in-ok-check-value.ensures in
+    let h = simp to_z-of_z at c.in_ok-pair.ensures in
+    let pair = pair_taken c.args.day c.args.element c.in_ok-pair.pair h in
+    let v = simp to_z-of_z at c.in_ok-check_value.ensures in
     let value : value_refusal c.args.element c.args.value ≡ None = rw (← pair.2) (unless_ok _ _ _ v) in
     let b = c.args.self.now in
-    let k : PairKey = record { pair = c.in-ok-pair.pair } in
+    let k : PairKey = record { pair = c.in_ok-pair.pair } in
     let full = enter_no_room (rows b.table) b.sorted _ _ k pair.1 pair.2 c.args.value (room b.table) value (sym c.put.ensures.answer ∙ c.if-put.false) in
     let same : rows c.put.new.self ≡ rows b.table = c.put.ensures.rows ∙ cond-false c.put.result _ _ c.if-put.false in
     record {

@@ -1,4 +1,4 @@
-use Rattle.std.proofs.Common.{◌≡◌, min, sym, refl, ap, ◌∙◌}
+use Rattle.std.proofs.Common.{min, sym, refl, ap, ◌∙◌}
 use Rattle.std.proofs.lemmas.Int.{to_z-of_z}
 use Rattle.std.proofs.lemmas.Result.{err_from_is_err_and}
 use Rattle.daybook.specs.Grid.{pair_count}
@@ -11,37 +11,37 @@ use Rattle.list_book.specs.Book.{book_grid}
 use Rattle.list_book.proofs.OnCalls.{strike_there, strike_absent, removed_sorted, removed_valid, removed_struck, removed_none, removed_row, lines_untouched}
 use Rattle.list_book.proofs.calls.ListBookDaybook.strike.Goals as goal
 
-pub returns-in-err-pair : goal.returns-in-err-pair
-returns-in-err-pair c =
+pub returns-in_err-pair : goal.returns-in_err-pair
+returns-in_err-pair c =
     let fd = c.ranges.day in
     let fe = c.ranges.element in
-    let e = err_from_is_err_and c.from-residual.result c.from-residual.ensures.1 in
-    let h = simp to_z-of_z at c.in-err-pair.ensures in
+    let e = err_from_is_err_and c.from_residual.result c.from_residual.ensures.1 in
+    let h = simp to_z-of_z at c.in_err-pair.ensures in
     let b = c.args.self.now in
     let gone = pair_declined c.args.day c.args.element _ h in
     let why = strike_declined (book_grid b) _ _ _ gone in
     record { answer = rw (e.1, e.2, why); after = sym (struck_same _ _ _ _ why); ceiling = refl; lines = lines_untouched _ _ _ gone b.table.lines.now b.table.used; lender = refl }
 
-pub invariant-of-self : goal.invariant-of-self
-invariant-of-self c =
+pub invariant_of-self : goal.invariant_of-self
+invariant_of-self c =
     let fd = c.ranges.day in
     let fe = c.ranges.element in
-    let h = simp to_z-of_z at c.in-ok-pair.ensures in
-    let pair = pair_taken c.args.day c.args.element c.in-ok-pair.pair h in
+    let h = simp to_z-of_z at c.in_ok-pair.ensures in
+    let pair = pair_taken c.args.day c.args.element c.in_ok-pair.pair h in
     let b = c.args.self.now in
-    let k : PairKey = record { pair = c.in-ok-pair.pair } in (
-      removed_sorted (rows b.table) b.sorted _ _ k pair.1 pair.2 (rows c.remove.new.self) c.remove.ensures.rows,
-      (removed_valid (rows b.table) b.sorted _ _ k pair.1 pair.2 (rows c.remove.new.self) b.valid c.remove.ensures.rows, tt),
-    )
+    let k : PairKey = record { pair = c.in_ok-pair.pair } in record {
+      sorted = removed_sorted (rows b.table) b.sorted _ _ k pair.1 pair.2 (rows c.remove.new.self) c.remove.ensures.rows;
+      valid = removed_valid (rows b.table) b.sorted _ _ k pair.1 pair.2 (rows c.remove.new.self) b.valid c.remove.ensures.rows;
+    }
 
 pub returns-then-remove : goal.returns-then-remove
 returns-then-remove c =
     let fd = c.ranges.day in
     let fe = c.ranges.element in
-    let h = simp to_z-of_z at c.in-ok-pair.ensures in
-    let pair = pair_taken c.args.day c.args.element c.in-ok-pair.pair h in
+    let h = simp to_z-of_z at c.in_ok-pair.ensures in
+    let pair = pair_taken c.args.day c.args.element c.in_ok-pair.pair h in
     let b = c.args.self.now in
-    let k : PairKey = record { pair = c.in-ok-pair.pair } in
+    let k : PairKey = record { pair = c.in_ok-pair.pair } in
     let row = removed_row (rows b.table) b.sorted _ _ k pair.1 pair.2 in
     let taken = strike_there (rows b.table) b.sorted _ _ k pair.1 pair.2 (sym c.remove.ensures.answer ∙ c.if-remove.true) in
     record {
@@ -56,10 +56,10 @@ pub returns-else-remove : goal.returns-else-remove
 returns-else-remove c =
     let fd = c.ranges.day in
     let fe = c.ranges.element in
-    let h = simp to_z-of_z at c.in-ok-pair.ensures in
-    let pair = pair_taken c.args.day c.args.element c.in-ok-pair.pair h in
+    let h = simp to_z-of_z at c.in_ok-pair.ensures in
+    let pair = pair_taken c.args.day c.args.element c.in_ok-pair.pair h in
     let b = c.args.self.now in
-    let k : PairKey = record { pair = c.in-ok-pair.pair } in
+    let k : PairKey = record { pair = c.in_ok-pair.pair } in
     let row = removed_row (rows b.table) b.sorted _ _ k pair.1 pair.2 in
     let absent = sym c.remove.ensures.answer ∙ c.if-remove.false in
     let empty = strike_absent (rows b.table) b.sorted _ _ k pair.1 pair.2 absent in
