@@ -1,5 +1,5 @@
 -- Keys of one station and month are one key, and keys go in a total order. Assumes nothing.
-use Rattle.std.specs.Prelude.{◌≡◌, ℕ, ◌≤◌, true, false}
+use Rattle.std.specs.Prelude.{◌≡◌, ◌≤◌, true, false}
 use mathlib.Core.HLevel.{is_prop→PathP}
 use Rattle.std.proofs.Math.Bridge.{le_prop}
 use Rattle.std.proofs.Common.{arith}
@@ -24,5 +24,11 @@ neither_below x y p q =
     let m : x.month ≡ y.month = grind (arith, nat_tests) in
     same_parts x y s m
 
+pub not_below_itself : (x : StationMonth) → key_below x x ≡ false
+not_below_itself x = grind (arith, nat_tests)
+
+pub below_chain : (x y z : StationMonth) → key_below x y ≡ true → key_below y z ≡ true → key_below x z ≡ true
+below_chain x y z p q = grind (arith, nat_tests)
+
 pub key_order : Order key_below
-key_order = record { itself = λ x. grind (arith, nat_tests); chain = λ x y z p q. grind (arith, nat_tests); apart = neither_below }
+key_order = record { itself = not_below_itself; chain = below_chain; apart = neither_below }

@@ -1,7 +1,6 @@
 // Keys go by station, then month.
 ghost use Rattle.normals.specs.Order.{key_below};
-ghost use Rattle.normals.specs.OnKeys.{neither_below};
-ghost use Rattle.std.proofs.Common.{rules, arith};
+ghost use Rattle.normals.specs.OnKeys.{not_below_itself, below_chain, neither_below};
 
 use crate::key::StationMonth;
 use ordered_table::key::Key;
@@ -9,9 +8,9 @@ use ordered_table::key::Key;
 impl Key for StationMonth {
     ghost below = { key_below };
 
-    ghost itself = { first_of (Prim.search rules, Prim.grind (arith, Self.row.coded.inj)) };
+    ghost itself = { not_below_itself };
 
-    ghost chain = { first_of (Prim.search rules, Prim.grind (arith, Self.row.coded.inj)) };
+    ghost chain = { below_chain };
 
     ghost apart = { neither_below };
 

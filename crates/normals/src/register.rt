@@ -34,7 +34,7 @@ impl<'a> Register<'a> {
     // How many records there may be: one for each line.
     pub fn ceiling(&self) -> usize
         ensures answer { result ≡ (holdings self.now.table).ceiling }
-        ensures same { self.now ≡ self.now }
+        ensures same { self.exit.now ≡ self.entry.now }
     {
         self.table.room()
     }
@@ -42,14 +42,14 @@ impl<'a> Register<'a> {
     // How many records there are.
     pub fn len(&self) -> usize
         ensures answer { result ≡ (holdings self.now.table).count }
-        ensures same { self.now ≡ self.now }
+        ensures same { self.exit.now ≡ self.entry.now }
     {
         self.table.len()
     }
 
     pub fn look_up(&self, station: i32, month: i32) -> Result<Option<CheckedNormals>, Refusal>
         ensures answer { unchecked result ≡ looked_up (holdings self.now.table) station month }
-        ensures same { self.now ≡ self.now }
+        ensures same { self.exit.now ≡ self.entry.now }
     {
         let wanted = StationMonth::check(station, month)?;
         Ok(self.table.find(wanted))

@@ -2,10 +2,10 @@ use Rattle.std.proofs.Common.{rules}
 use Rattle.normals.specs.Normals.{missing_good}
 use Rattle.normals.proofs.checked.is_missing_good.Goals as goal
 
-pub returns-then-is-two-digits-5 : goal.returns-then-is-two-digits-5
+pub returns-then-is_two_digits-5 : goal.returns-then-is_two_digits-5
 unfolding missing_good
-returns-then-is-two-digits-5 c = search rules
+returns-then-is_two_digits-5 c = search rules
 
-pub returns-else-is-two-digits-5 : goal.returns-else-is-two-digits-5
+pub returns-else-is_two_digits-5 : goal.returns-else-is_two_digits-5
 unfolding missing_good
-returns-else-is-two-digits-5 c = search rules
+returns-else-is_two_digits-5 c = search rules

@@ -2,13 +2,13 @@ use Rattle.std.proofs.Common.{rules}
 use Rattle.normals.specs.Register.{record_refusal}
 use Rattle.normals.proofs.register.check_row.Goals as goal
 
-pub returns-in-err-key : goal.returns-in-err-key
+pub returns-in_err-key : goal.returns-in_err-key
 unfolding record_refusal
-returns-in-err-key c = search rules
+returns-in_err-key c = search rules
 
-pub returns-in-err-entry : goal.returns-in-err-entry
+pub returns-in_err-entry : goal.returns-in_err-entry
 unfolding record_refusal
-returns-in-err-entry c = search rules
+returns-in_err-entry c = search rules
 
 pub returns : goal.returns
 unfolding record_refusal

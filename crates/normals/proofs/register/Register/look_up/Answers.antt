@@ -7,12 +7,12 @@ use Rattle.normals.proofs.OnChecks.{key_taken, key_declined}
 use Rattle.normals.proofs.OnRegister.{look_declined, look_found}
 use Rattle.normals.proofs.register.Register.look_up.Goals as goal
 
-pub returns-in-err-wanted : goal.returns-in-err-wanted
-returns-in-err-wanted c =
+pub returns-in_err-wanted : goal.returns-in_err-wanted
+returns-in_err-wanted c =
     let fs = c.ranges.station in
     let fm = c.ranges.month in
-    let e = err_from_is_err_and c.from-residual.result c.from-residual.ensures.1 in
-    let h = simp to_z-of_z at c.in-err-wanted.ensures in
+    let e = err_from_is_err_and c.from_residual.result c.from_residual.ensures.1 in
+    let h = simp to_z-of_z at c.in_err-wanted.ensures in
     let why = key_declined c.args.station c.args.month _ h in
     record { answer = rw (e.1, e.2) (sym (look_declined (holdings c.args.self.now.table) _ _ _ why)); same = refl }
 
@@ -20,8 +20,8 @@ pub returns : goal.returns
 returns c =
     let fs = c.ranges.station in
     let fm = c.ranges.month in
-    let h = simp to_z-of_z at c.in-ok-wanted.ensures in
-    let k = c.in-ok-wanted.wanted in
+    let h = simp to_z-of_z at c.in_ok-wanted.ensures in
+    let k = c.in_ok-wanted.wanted in
     let key = key_taken c.args.station c.args.month k h in
     let table = c.args.self.now.table in
     record { answer = look_found _ _ k key.1 key.2 (rows table) (room table) c.find.result c.args.self.now.sorted key.0 c.find.ensures.answer; same = refl }

@@ -1,12 +1,12 @@
-use Rattle.std.proofs.Common.{◌≡◌, length, refl, ap, ◌∙◌}
+use Rattle.std.proofs.Common.{length, ap}
 use Rattle.ordered_table.specs.Order.{rising}
 use Rattle.normals.specs.Order.{key_below}
 use Rattle.normals.proofs.OnRegister.{held_none}
 use Rattle.normals.proofs.register.Register.new.Goals as goal
 
-pub invariant-of-result : goal.invariant-of-result
+pub invariant_of-result : goal.invariant_of-result
 unfolding rising
-invariant-of-result c = (ap (rising key_below) c.new.ensures.rows, tt)
+invariant_of-result c = record { sorted = ap (rising key_below) c.new.ensures.rows }
 
 pub returns : goal.returns
 returns c = record {

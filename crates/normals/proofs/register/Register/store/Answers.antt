@@ -1,4 +1,4 @@
-use Rattle.std.proofs.Common.{◌≡◌, sym, refl, subst, arith}
+use Rattle.std.proofs.Common.{sym, refl, subst, arith}
 use Rattle.std.proofs.lemmas.Int.{to_z-of_z}
 use Rattle.std.proofs.lemmas.Result.{err_from_is_err_and}
 use Rattle.ordered_table.specs.Contents.{rows, lines, room}
@@ -7,12 +7,12 @@ use Rattle.normals.proofs.OnChecks.{record_taken, record_declined}
 use Rattle.normals.proofs.OnRegister.{wrong_record, filed_with, put_taken, put_full, put_sorted, lines_same, lines_back}
 use Rattle.normals.proofs.register.Register.store.Goals as goal
 
-pub returns-in-err-row : goal.returns-in-err-row
-returns-in-err-row c =
+pub returns-in_err-row : goal.returns-in_err-row
+returns-in_err-row c =
     let fs = c.ranges.station in
     let fm = c.ranges.month in
-    let e = err_from_is_err_and c.from-residual.result c.from-residual.ensures.1 in
-    let h = simp to_z-of_z at c.in-err-row.ensures in
+    let e = err_from_is_err_and c.from_residual.result c.from_residual.ensures.1 in
+    let h = simp to_z-of_z at c.in_err-row.ensures in
     let table = c.args.self.now.table in
     let why = wrong_record (holdings table) c.args.station c.args.month c.args.normals _ (record_declined c.args.station c.args.month c.args.normals _ h) in
     record {
@@ -24,16 +24,16 @@ returns-in-err-row c =
       lender = refl;
     }
 
-pub invariant-of-self : goal.invariant-of-self
-invariant-of-self c =
-    (put_sorted c.put.result _ (rows c.args.self.now.table) (rows c.put.new.self) c.put.ensures.rows c.args.self.now.sorted, tt)
+pub invariant_of-self : goal.invariant_of-self
+invariant_of-self c =
+    record { sorted = put_sorted c.put.result _ (rows c.args.self.now.table) (rows c.put.new.self) c.put.ensures.rows c.args.self.now.sorted }
 
 pub returns-then-put : goal.returns-then-put
 returns-then-put c =
     let fs = c.ranges.station in
     let fm = c.ranges.month in
-    let h = simp to_z-of_z at c.in-ok-row.ensures in
-    let row = c.in-ok-row.row in
+    let h = simp to_z-of_z at c.in_ok-row.ensures in
+    let row = c.in_ok-row.row in
     let good = record_taken c.args.station c.args.month c.args.normals row h in
     let table = c.args.self.now.table in
     let after = c.put.new.self in
@@ -53,8 +53,8 @@ pub returns-else-put : goal.returns-else-put
 returns-else-put c =
     let fs = c.ranges.station in
     let fm = c.ranges.month in
-    let h = simp to_z-of_z at c.in-ok-row.ensures in
-    let row = c.in-ok-row.row in
+    let h = simp to_z-of_z at c.in_ok-row.ensures in
+    let row = c.in_ok-row.row in
     let good = record_taken c.args.station c.args.month c.args.normals row h in
     let table = c.args.self.now.table in
     let after = c.put.new.self in
