@@ -1,7 +1,7 @@
 -- How many bytes a section takes at most. Assumes nothing.
-use Rattle.std.proofs.Common.{◌≡◌, ℕ, zero, suc, ◌+◌, ◌≤◌, Bool, true, false, cond, List, [], ◌∷◌, ◌++◌, length, take, drop, sym, refl, ap, ◌∙◌, arith, length-append}
+use Rattle.std.proofs.Common.{◌≡◌, ℕ, ◌+◌, ◌≤◌, true, false, cond, List, [], ◌∷◌, ◌++◌, length, take, drop, refl, arith, length-append}
 use lib.ListN.{length-replicate}
-use Rattle.text.specs.Digits.{digits, bars}
+use Rattle.text.specs.Digits.{digits}
 use Rattle.text.proofs.OnDigits.{length_digits}
 use Rattle.layout.specs.declared.field.Field.TheVariants.{Shown, Barred, LeftOut}
 use Rattle.layout.specs.declared.row.Row.{Row}

@@ -3,3 +3,4 @@ pub mod Lawful
 pub mod Figures
 pub mod Texts
 pub mod Laid
+pub mod Backs

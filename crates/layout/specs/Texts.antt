@@ -1,5 +1,5 @@
 -- The text of a section's fields.
-use Rattle.std.specs.Prelude.{ℕ, ◌+◌, Bool, true, false, cond, List, [], ◌∷◌, ◌++◌, take, drop}
+use Rattle.std.specs.Prelude.{ℕ, cond, List, [], ◌∷◌, ◌++◌, take, drop}
 use Rattle.text.specs.Digits.{digits, bars}
 use Rattle.layout.specs.declared.field.Field.TheVariants.{Shown, Barred, LeftOut}
 use Rattle.layout.specs.declared.row.Row.{Row}

@@ -1,7 +1,7 @@
 // Figures as the numbers that their digits write, and back.
 ghost use Rattle.std.specs.Prelude.{◌≡◌, ℕ, Bool, true};
 ghost use Rattle.layout.specs.Figures.{temperature_code, temperature_at, is_tenths, pressure_code, pressure_at, is_pressure, plain_code, plain_at, rain_code, rain_at, day_code, day_at, is_day, always, on_field};
-ghost use Rattle.std.proofs.Common.{rules};
+ghost use Rattle.layout.specs.Backs.{plain_back, rain_back, temperature_back, pressure_back, day_back};
 
 use crate::field::Field;
 use crate::figure::{DayCode, PlainNumber, Pressure, RainAmount, Temperature};
@@ -32,7 +32,7 @@ impl Figure for PlainNumber {
 
     ghost fits = { always };
 
-    ghost back = { Prim.search rules };
+    ghost back = { plain_back };
 
     fn code(self) -> u32 {
         self.number
@@ -50,7 +50,7 @@ impl Figure for RainAmount {
 
     ghost fits = { always };
 
-    ghost back = { Prim.search rules };
+    ghost back = { rain_back };
 
     fn code(self) -> u32 {
         self.code
@@ -71,7 +71,7 @@ impl Figure for Temperature {
 
     ghost fits = { is_tenths };
 
-    ghost back = { Prim.search rules };
+    ghost back = { temperature_back };
 
     fn code(self) -> u32 {
         let size = self.tenths.unsigned_abs();
@@ -107,7 +107,7 @@ impl Figure for Pressure {
 
     ghost fits = { is_pressure };
 
-    ghost back = { Prim.search rules };
+    ghost back = { pressure_back };
 
     fn code(self) -> u32 {
         if self.tenths < THOUSAND {
@@ -137,7 +137,7 @@ impl Figure for DayCode {
 
     ghost fits = { is_day };
 
-    ghost back = { Prim.search rules };
+    ghost back = { day_back };
 
     fn code(self) -> u32 {
         if self.recurs {

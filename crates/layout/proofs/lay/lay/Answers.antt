@@ -15,7 +15,7 @@ loop-i-preserved c =
     let count = c.min-count.result in
     let g : Group = record { digit = 0; count = 0; required = false; noughts = false } in
     let same : length cells ≡ length figures = omega arith in
-    let put = c.settle.ensures ∙ ap (λ b. settled b (take (first + count - first) (drop first figures))) c.is-silent.ensures in (
+    let put = c.settle.ensures ∙ ap (λ b. settled b (take (first + count - first) (drop first figures))) c.is_silent.ensures in (
       omega arith,
       group_laid groups figures cells ys i first count g (laid groups figures) c.loop-i-test.true c.loop-i.invariant.0 same c.min-count.ensures put c.loop-i.invariant.1,
       rest_blank groups figures cells ys i first count g (laid groups figures) c.loop-i-test.true c.loop-i.invariant.0 same c.min-count.ensures put c.loop-i.invariant.2,

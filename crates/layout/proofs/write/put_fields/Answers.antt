@@ -1,4 +1,4 @@
-use Rattle.std.proofs.Common.{◌≡◌, ◌+◌, ◌<◌, false, ◌++◌, length, get_or, drop, ap, ◌∙◌, arith}
+use Rattle.std.proofs.Common.{◌+◌, ◌<◌, false, ◌++◌, length, get_or, drop, ap, ◌∙◌, arith}
 use Rattle.text.specs.Drafts.{kept, text_of}
 use Rattle.layout.specs.declared.field.Field.TheVariants.{Shown}
 use Rattle.layout.specs.declared.row.Kind.TheVariants.{Temperature}
@@ -18,7 +18,7 @@ loop-i-preserved c =
     let in_cells : i < length cells = omega arith in
     let text = text_of c.loop-i.draft in
     let next = c.loop-i.invariant ∙ ap (λ z. kept (text ++ z)) (fields_at rows cells i r (Shown 0) in_rows in_cells) in
-    part_written _ text (field_text (get_or rows i r) (get_or cells i (Shown 0))) (fields_text (drop (i + 1) rows) (drop (i + 1) cells)) _ next c.put-field.ensures
+    part_written _ text (field_text (get_or rows i r) (get_or cells i (Shown 0))) (fields_text (drop (i + 1) rows) (drop (i + 1) cells)) _ next c.put_field.ensures
 
 pub returns : goal.returns
 returns c = all_written _ c.loop-i.draft _ c.loop-i.invariant (fields_over c.args.rows.now c.args.cells.now c.loop-i.i (omega arith))

@@ -1,4 +1,4 @@
-use Rattle.std.proofs.Common.{◌≡◌, ◌+◌, ◌<◌, false, ◌++◌, length, get_or, take, drop, sym, ap, ◌∙◌, ap₂, arith}
+use Rattle.std.proofs.Common.{◌+◌, false, ◌++◌, get_or, take, drop, sym, ap, ◌∙◌, ap₂}
 use Rattle.text.specs.Drafts.{kept, text_of}
 use Rattle.layout.specs.declared.row.Group.{Group}
 use Rattle.layout.specs.Texts.{group_text, groups_text}
@@ -14,9 +14,9 @@ loop-i-preserved c =
     let text = text_of c.loop-i.draft in
     let g : Group = get_or groups i (record { digit = 0; count = 0; required = false; noughts = false }) in
     let next = c.loop-i.invariant ∙ ap (λ z. kept (text ++ z)) (groups_at groups rows cells i (record { digit = 0; count = 0; required = false; noughts = false }) c.loop-i-test.true) in
-    let put = c.put-group.ensures ∙ ap₂ (λ a b. kept (text ++ group_text g a b)) c.front.ensures c.front-in-loop-i.ensures in
+    let put = c.put_group.ensures ∙ ap₂ (λ a b. kept (text ++ group_text g a b)) c.front.ensures c.front-in-loop-i.ensures in
     part_written _ text (group_text g (take g.count rows) (take g.count cells)) (groups_text (drop (i + 1) groups) (drop g.count rows) (drop g.count cells)) _ next put
-    ∙ ap₂ (λ a b. kept (text_of c.put-group.new.draft ++ groups_text (drop (i + 1) groups) a b)) (sym c.behind-rows-left.ensures) (sym c.behind-cells-left.ensures)
+    ∙ ap₂ (λ a b. kept (text_of c.put_group.new.draft ++ groups_text (drop (i + 1) groups) a b)) (sym c.behind-rows_left.ensures) (sym c.behind-cells_left.ensures)
 
 pub returns : goal.returns
 returns c = all_written _ c.loop-i.draft _ c.loop-i.invariant (groups_over c.args.groups.now _ _ c.loop-i.i c.loop-i-test.false)

@@ -5,4 +5,4 @@ use Rattle.layout.proofs.write.put_groups.Given as goal
 
 -- the text so far and the groups from here on give the whole
 abbrev pub invariant-loop-i : goal.invariant-loop-i
-invariant-loop-i l = kept (text_of l.initial.draft ++ groups_text l.groups l.rows l.cells) ≡ kept (text_of l.draft ++ groups_text (drop l.i l.groups) l.rows-left l.cells-left)
+invariant-loop-i l = kept (text_of l.initial.draft ++ groups_text l.groups l.rows l.cells) ≡ kept (text_of l.draft ++ groups_text (drop l.i l.groups) l.rows_left l.cells_left)

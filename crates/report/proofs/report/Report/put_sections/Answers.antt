@@ -1,4 +1,4 @@
-use Rattle.std.proofs.Common.{◌≡◌, ◌++◌, ap, ◌∙◌}
+use Rattle.std.proofs.Common.{◌++◌, ap, ◌∙◌}
 use Rattle.text.specs.Drafts.{kept, text_of}
 use Rattle.text.proofs.OnDrafts.{kept_then}
 use Rattle.layout.specs.declared.section.Section.TheVariants.{First, Second, Third, Fourth}
@@ -14,10 +14,10 @@ returns c =
     let two = section_text Second r.second in
     let three = section_text Third r.third in
     let four = section_text Fourth r.fourth in
-    let both = kept_then start one two c.put-section.ensures.text c.put-section-2.ensures.text in
-    let most = kept_then start (one ++ two) three both c.put-section-3.ensures.text in
-    let all = kept_then start ((one ++ two) ++ three) four most c.put-section-4.ensures.text in
+    let both = kept_then start one two c.put_section.ensures.text c.put_section-2.ensures.text in
+    let most = kept_then start (one ++ two) three both c.put_section-3.ensures.text in
+    let all = kept_then start ((one ++ two) ++ three) four most c.put_section-4.ensures.text in
     record {
       text = all ∙ ap (λ z. kept (start ++ z)) (four_parts one two three four);
-      room = four_lengths one two three four 73 75 68 58 c.put-section.ensures.room c.put-section-2.ensures.room c.put-section-3.ensures.room c.put-section-4.ensures.room;
+      room = four_lengths one two three four 73 75 68 58 c.put_section.ensures.room c.put_section-2.ensures.room c.put_section-3.ensures.room c.put_section-4.ensures.room;
     }
