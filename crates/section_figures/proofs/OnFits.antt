@@ -1,5 +1,5 @@
 -- Figures that fit the fields of their section. Assumes nothing.
-use Rattle.std.proofs.Common.{◌≡◌, ℕ, ◌≤◌, Bool, true, false, cond, ◌&&◌, ◌||◌, eqb, ltb, leb, List, [], ◌∷◌, Some, None, Option, sym, refl, ap, ◌∙◌, arith}
+use Rattle.std.proofs.Common.{◌≡◌, ℕ, ◌≤◌, Bool, true, false, cond, ◌&&◌, eqb, ltb, [], ◌∷◌, Some, None, Option, refl, arith}
 use Rattle.std.proofs.lemmas.Bool.{and_from, and_right, lt-ltb, le-leb}
 use Rattle.station.specs.declared.element.Element.{Element}
 use Rattle.station.specs.declared.element.Element.TheVariants.{HighestTemperature, LowestTemperature, Rain, SnowDepth, Wind, Visibility}
@@ -14,7 +14,6 @@ use Rattle.layout.specs.declared.row.Kind.TheVariants.{Days}
 use Rattle.layout.specs.declared.row.Tie.{Tie}
 use Rattle.layout.specs.declared.row.Tie.TheVariants.{Free, Together}
 use Rattle.layout.specs.declared.row.Row.{Row}
-use Rattle.layout.specs.declared.row.Group.{Group}
 use Rattle.layout.specs.declared.section.Section.TheVariants.{Third}
 use Rattle.layout.specs.Tables.{group, row, groups_of, rows_of}
 use Rattle.layout.specs.Lawful.{all_good}

@@ -14,8 +14,8 @@ use station::calendar::CalendarMonth;
 
 // The days that meet a limit.
 fn days_at<S: DaySource>(source: &S, limit: Limit, month: CalendarMonth) -> Option<u32>
-    ensures value { result ≡ days_at (grid source.now) (days_of month) limit }
-    ensures same { source.now ≡ source.now }
+    ensures value { result ≡ days_at (S.grid source.now) (days_of month) limit }
+    ensures same { source.exit.now ≡ source.entry.now }
 {
     match days_at_limit(source, limit, month) {
         Some(days) => Some(u32::from(days)),
@@ -24,9 +24,9 @@ fn days_at<S: DaySource>(source: &S, limit: Limit, month: CalendarMonth) -> Opti
 }
 
 pub fn third_figures<S: DaySource>(source: &S, month: CalendarMonth) -> [Option<u32>; 22]
-    ensures value { result ≡ third_figures (grid source.now) (days_of month) }
-    ensures fits { figures_fit (days_of month) (groups_of Third) (rows_of Third) (third_figures (grid source.now) (days_of month)) ≡ true }
-    ensures same { source.now ≡ source.now }
+    ensures value { result ≡ third_figures (S.grid source.now) (days_of month) }
+    ensures fits { figures_fit (days_of month) (groups_of Third) (rows_of Third) (third_figures (S.grid source.now) (days_of month)) ≡ true }
+    ensures same { source.exit.now ≡ source.entry.now }
 {
     let limits = report_limits();
     let mut figures = [None; 22];

@@ -1,4 +1,4 @@
-use Rattle.std.proofs.Common.{◌≡◌, ◌<◌, length, get_or, pos, refl, ap, ◌∙◌, arith, length-set}
+use Rattle.std.proofs.Common.{◌<◌, length, get_or, pos, refl, ap, ◌∙◌, arith, length-set}
 use Rattle.station.specs.Months.{days_of}
 use Rattle.station.specs.declared.element.Element.TheVariants.{StationPressure}
 use Rattle.station.proofs.OnCalendar.{length_most}
@@ -16,10 +16,10 @@ loop-i-preserved g c =
     let d = days_of c.args.month in
     let i = c.loop-i.i in
     let l : Limit = record { element = StationPressure; comparison = AtLeast; bound = pos 0 } in
-    let x = c.days-at.ensures.value ∙ ap (λ ls. days_at grid d (get_or ls i l)) c.report-limits-limits.ensures in
+    let x = c.days_at.ensures.value ∙ ap (λ ls. days_at grid d (get_or ls i l)) c.report_limits-limits.ensures in
     let inside : i < length c.loop-i.figures = omega arith in (
-      length-set c.loop-i.figures i c.days-at.result ∙ c.loop-i.invariant.0,
-      limit_more grid d limits c.loop-i.figures i l c.days-at.result c.loop-i-test.true inside x c.loop-i.invariant.1,
+      length-set c.loop-i.figures i c.days_at.result ∙ c.loop-i.invariant.0,
+      limit_more grid d limits c.loop-i.figures i l c.days_at.result c.loop-i-test.true inside x c.loop-i.invariant.1,
     )
 
 pub returns : goal.returns
