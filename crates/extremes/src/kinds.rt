@@ -1,6 +1,6 @@
 // The kinds of reading that have an extreme, each with its ranking. The numbers are in the units of their elements.
 ghost use Rattle.extremes.specs.Kinds.{warmer, colder, rainier, windier};
-ghost use Rattle.std.proofs.Common.{rules};
+ghost use Rattle.extremes.specs.Rankings.{below_one_way, not_below_chain};
 
 use crate::ranked::Ranked;
 use station::wind::WindIndicator;
@@ -12,9 +12,9 @@ pub struct HighTemperature(pub i32);
 impl Ranked for HighTemperature {
     ghost over = { warmer };
 
-    ghost one_way = { Prim.search rules };
+    ghost one_way = { λ x y. below_one_way y.0 x.0 };
 
-    ghost chain = { Prim.search rules };
+    ghost chain = { λ x y z h i. not_below_chain z.0 y.0 x.0 i h };
 
     fn outranks(self, other: HighTemperature) -> bool {
         other.0 < self.0
@@ -28,9 +28,9 @@ pub struct LowTemperature(pub i32);
 impl Ranked for LowTemperature {
     ghost over = { colder };
 
-    ghost one_way = { Prim.search rules };
+    ghost one_way = { λ x y. below_one_way x.0 y.0 };
 
-    ghost chain = { Prim.search rules };
+    ghost chain = { λ x y z. not_below_chain x.0 y.0 z.0 };
 
     fn outranks(self, other: LowTemperature) -> bool {
         self.0 < other.0
@@ -44,9 +44,9 @@ pub struct RainDepth(pub i32);
 impl Ranked for RainDepth {
     ghost over = { rainier };
 
-    ghost one_way = { Prim.search rules };
+    ghost one_way = { λ x y. below_one_way y.0 x.0 };
 
-    ghost chain = { Prim.search rules };
+    ghost chain = { λ x y z h i. not_below_chain z.0 y.0 x.0 i h };
 
     fn outranks(self, other: RainDepth) -> bool {
         self.0 > other.0
@@ -63,9 +63,9 @@ pub struct WindSpeed {
 impl Ranked for WindSpeed {
     ghost over = { windier };
 
-    ghost one_way = { Prim.search rules };
+    ghost one_way = { λ x y. below_one_way y.speed x.speed };
 
-    ghost chain = { Prim.search rules };
+    ghost chain = { λ x y z h i. not_below_chain z.speed y.speed x.speed i h };
 
     fn outranks(self, other: WindSpeed) -> bool {
         self.speed > other.speed
