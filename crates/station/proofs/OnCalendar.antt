@@ -1,5 +1,5 @@
 -- The length of a month, by the code's two ways, and its bounds. Assumes nothing.
-use Rattle.std.proofs.Common.{◌≡◌, ℕ, zero, suc, ◌-◌, ◌<◌, ◌≤◌, Bool, true, false, cond, ◌&&◌, eqb, leb, List, [], ◌∷◌, length, get_or, sym, refl, ap, ◌∙◌, arith, lit≤}
+use Rattle.std.proofs.Common.{◌≡◌, ℕ, zero, suc, ◌-◌, ◌<◌, ◌≤◌, Bool, true, false, ◌&&◌, eqb, leb, List, [], ◌∷◌, length, get_or, sym, refl, arith, lit≤}
 use Rattle.std.proofs.lemmas.Bool.{and_parts, leb-true, cond-false, cond_both}
 use Rattle.station.specs.Calendar.{common_lengths, is_leap, month_length}
 

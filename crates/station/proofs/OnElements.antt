@@ -1,9 +1,12 @@
 -- An element and its number determine each other. Assumes nothing.
-use Rattle.std.proofs.Common.{◌≡◌, ℕ, zero, suc, ◌+◌, ◌-◌, ◌<◌, ◌≤◌, Bool, true, false, cond, ◌&&◌, eqb, List, [], ◌∷◌, length, get_or, ℤ, pos, negsuc, is_some, Some, None, Option, sym, refl, ap, ◌∙◌, subst, add-zero, one-add, arith, lit≤, eqb-true}
+use Rattle.std.proofs.Common.{◌≡◌, ℕ, zero, suc, ◌+◌, ◌<◌, ◌≤◌, Bool, true, false, ◌&&◌, eqb, List, [], ◌∷◌, length, get_or, ℤ, pos, negsuc, is_some, Some, None, Option, sym, refl, ap, ◌∙◌, add-zero, one-add, arith, lit≤, eqb-true}
+use Rattle.std.specs.Option.{ok_or}
 use Rattle.std.proofs.lemmas.Bool.{and_parts}
 use Rattle.station.specs.declared.element.Element.{Element}
 use Rattle.station.specs.declared.element.Element.TheVariants.{StationPressure, SeaLevelPressure, MeanTemperature, HighestTemperature, LowestTemperature, VapourPressure, Rain, Sunshine, SnowDepth, Wind, Visibility, Weather}
+use Rattle.station.specs.declared.refusal.Refusal.TheVariants.{Element as NoElement}
 use Rattle.station.specs.Numbers.{Bearing}
+use Rattle.station.specs.Refusals.{BearerOf}
 use Rattle.station.specs.Elements.{elements, element_number, element_numbered, is_element, takes, some_takes, in_range}
 use Rattle.station.proofs.OnNumbers.{first_bears}
 
@@ -70,9 +73,13 @@ numbered_at n k e l =
     let h : element_number x ≡ suc k = order_at 1 elements k refl l ∙ one-add k in
     sym (ap element_numbered (e ∙ ap pos (sym h)) ∙ numbered_of x)
 
-pub bearing_numbered : (n : ℤ) (o : Option Element) → o ≡ element_numbered n → Bearing element_number n o
+bearing_numbered : (n : ℤ) (o : Option Element) → o ≡ element_numbered n → Bearing element_number n o
 bearing_numbered n None h = λ x e. let z : None ≡ Some x = h ∙ ap element_numbered (sym e) ∙ numbered_of x in absurd (grind arith)
 bearing_numbered n (Some x) h = sym (bears n x (sym h))
+
+-- what a search by number found is what the conversion answers
+pub found_element : (n : ℤ) (o : Option Element) → o ≡ element_numbered n → BearerOf element_number n (element_numbered n) NoElement (ok_or o NoElement)
+found_element n o h = record { given = ap (λ p. ok_or p NoElement) h; bears = bearing_numbered n (element_numbered n) refl }
 
 pub range_of : (x : Element) (v : ℤ) → in_range (pos (element_number x)) v ≡ takes x v
 unfolding in_range

@@ -1,7 +1,7 @@
 -- How an answer follows from a refusal, and a refusal from an answer. Assumes nothing.
-use Rattle.std.proofs.Common.{◌≡◌, Bool, true, false, Some, None, Ok, Err, Option, Result, sym, refl}
+use Rattle.std.proofs.Common.{◌≡◌, ℕ, Bool, true, false, Some, None, Ok, Err, Option, Result, ℤ, pos, sym, refl, ap, ◌∙◌}
 use Rattle.station.specs.declared.refusal.Refusal.{Refusal}
-use Rattle.station.specs.Refusals.{requiring, or_else, unless, Answered}
+use Rattle.station.specs.Refusals.{requiring, or_else, unless, Answered, BearerOf}
 
 pub declines : {X : Type 0} (o : Option Refusal) (r : Refusal) (P : X → Type 0) → o ≡ Some r → Answered o (Err r) P
 declines o r P e = rw e refl
@@ -50,3 +50,15 @@ none_first (Some r) p h = cc
 pub none_second : {X : Type 0} (o p : Option X) → or_else o p ≡ None → p ≡ None
 none_second None p h = h
 none_second (Some r) p h = cc
+
+-- what a conversion from a number found, and a refusal because nothing bears the number
+pub bearer : {X : Type 0} (number : X → ℕ) (n : ℤ) (o : Option X) (r : Refusal) (x : X) → BearerOf number n o r (Ok x) → (o ≡ Some x) × (pos (number x) ≡ n)
+bearer number n None r x h = let z : Ok x ≡ Err r = h.given in cc
+bearer {X} number n (Some y) r x h =
+    let z : Ok x ≡ Ok y = h.given in
+    let e : x ≡ y = cc in
+    (ap Some (sym e), ap (λ k. pos (number k)) e ∙ h.bears)
+
+pub borne_by_none : {X : Type 0} (number : X → ℕ) (n : ℤ) (o : Option X) (r s : Refusal) → BearerOf number n o r (Err s) → (o ≡ None) × (s ≡ r)
+borne_by_none number n None r s h = let z : Err s ≡ Err r = h.given in (refl, cc)
+borne_by_none {X} number n (Some y) r s h = let z : Err s ≡ Ok y = h.given in cc

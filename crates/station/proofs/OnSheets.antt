@@ -1,12 +1,13 @@
 -- Which of a sheet's numbers declines it. Assumes nothing.
-use Rattle.std.proofs.Common.{◌≡◌, ◌≤◌, Bool, true, false, ◌&&◌, ℤ, pos, negsuc, nat_abs, Some, None, Option, sym, refl, ap, ◌∙◌, arith}
+use Rattle.std.proofs.Common.{◌≡◌, ◌≤◌, true, false, ◌&&◌, ℤ, pos, negsuc, nat_abs, Some, None, Option, sym, refl, ap, ◌∙◌, arith}
+use Rattle.std.specs.Option.{ok_or}
 use Rattle.std.proofs.lemmas.Bool.Decides.{nat_tests}
 use Rattle.std.proofs.lemmas.Bool.{and_left, and_right}
 use Rattle.station.specs.declared.refusal.Refusal.TheVariants.{Sheet}
 use Rattle.station.specs.declared.wind.WindIndicator.{WindIndicator}
 use Rattle.station.specs.declared.wind.WindIndicator.TheVariants.{Estimated, Measured}
 use Rattle.station.specs.Numbers.{Bearing}
-use Rattle.station.specs.Refusals.{requiring}
+use Rattle.station.specs.Refusals.{BearerOf}
 use Rattle.station.specs.Calendar.{is_year, is_month_number, is_month}
 use Rattle.station.specs.Sheets.{is_station, indicators, indicator_number, indicator_numbered, is_indicator, sheet_refusal}
 use Rattle.station.proofs.OnNumbers.{first_bears}
@@ -43,7 +44,11 @@ unfolding indicator_numbered
 indicator_of Estimated = refl
 indicator_of Measured = refl
 
-pub bearing_indicator : (n : ℤ) (o : Option WindIndicator) → o ≡ indicator_numbered n → Bearing indicator_number n o
+bearing_indicator : (n : ℤ) (o : Option WindIndicator) → o ≡ indicator_numbered n → Bearing indicator_number n o
 unfolding indicator_numbered
 bearing_indicator n None h = λ w e. let z : None ≡ Some w = h ∙ ap indicator_numbered (sym e) ∙ indicator_of w in absurd (grind arith)
 bearing_indicator n (Some w) h = sym (first_bears indicator_number n indicators w (sym h))
+
+-- what a search by code figure found is what the conversion answers
+pub found_indicator : (n : ℤ) (o : Option WindIndicator) → o ≡ indicator_numbered n → BearerOf indicator_number n (indicator_numbered n) Sheet (ok_or o Sheet)
+found_indicator n o h = record { given = ap (λ p. ok_or p Sheet) h; bears = bearing_indicator n (indicator_numbered n) refl }

@@ -1,6 +1,7 @@
 -- The number of each refusal, and what a call with a refusal answers.
-use Rattle.std.specs.Prelude.{◌≡◌, ℕ, Bool, cond, Some, None, Ok, Err, Option, Result}
+use Rattle.std.specs.Prelude.{◌≡◌, ℕ, Bool, cond, ℤ, Some, None, Ok, Err, Option, Result, ok_or}
 use Rattle.station.specs.declared.refusal.Refusal.{Refusal}
+use Rattle.station.specs.Numbers.{Bearing}
 use Rattle.station.specs.declared.refusal.Refusal.TheVariants.{Sheet, Normal, Day, Element, Value, Full, Empty, Room, Month, Malformed}
 
 -- the number by which a refusal is known
@@ -41,3 +42,10 @@ Answered (Some r) (Ok x) P = ⊥
 Answered (Some r) (Err s) P = s ≡ r
 Answered None (Ok x) P = P x
 Answered None (Err s) P = ⊥
+
+-- What a conversion from a number answers: what bears the number, or the refusal where nothing does.
+pub record BearerOf {X : Type 0} (number : X → ℕ) (n : ℤ) (found : Option X) (refusal : Refusal) (answer : Result X Refusal) : Type 0 where
+  -- it is what was found, or the refusal
+  pub given : answer ≡ ok_or found refusal
+  -- what was found bears the number, and where nothing was found nothing does
+  pub bears : Bearing number n found

@@ -63,20 +63,20 @@ impl CalendarMonth {
         if self.month == FEBRUARY && is_leap(self.year) {
             return LEAP_FEBRUARY;
         }
-        COMMON_LENGTHS[(self.month - 1) as usize]
+        COMMON_LENGTHS[usize::from(self.month) - 1]
     }
 }
 
 pub fn is_year(number: i32) -> bool
     ensures { result ≡ is_year number }
 {
-    FIRST_YEAR <= number && number <= LAST_YEAR
+    (FIRST_YEAR..=LAST_YEAR).contains(&number)
 }
 
 pub fn is_month_number(number: i32) -> bool
     ensures { result ≡ is_month_number number }
 {
-    1 <= number && number <= MONTHS
+    (1..=MONTHS).contains(&number)
 }
 
 fn is_leap(year: u16) -> bool

@@ -1,9 +1,12 @@
 // The twelve elements that a station observes each day.
 ghost use Rattle.std.specs.Prelude.{◌≡◌};
-ghost use Rattle.station.specs.Numbers.{Bearing};
+ghost use Rattle.station.specs.declared.refusal.Refusal.TheVariants.{Element as NoElement};
+ghost use Rattle.station.specs.Refusals.{BearerOf};
 ghost use Rattle.station.specs.Elements.{element_number, element_numbered, unit_of, lowest_of, highest_of, takes, symbol_of};
 
-#[derive(Clone, Copy, PartialEq, Eq, Debug)]
+use crate::refusal::Refusal;
+
+#[derive(Clone, Copy, PartialEq, Eq, PartialOrd, Ord, Debug)]
 pub enum Element {
     StationPressure = 1,
     SeaLevelPressure = 2,
@@ -52,23 +55,6 @@ impl Element {
         Element::Visibility,
         Element::Weather,
     ];
-
-    pub fn number(self) -> u8
-        ensures { result ≡ element_number self }
-    {
-        self as u8
-    }
-
-    // The element that bears this number.
-    pub fn numbered(number: i32) -> Option<Element>
-        ensures answer { result ≡ element_numbered number }
-        ensures bears { Bearing element_number number result }
-    {
-        if number < 1 || number > LAST {
-            return None;
-        }
-        Some(Element::ALL[(number - 1) as usize])
-    }
 
     pub fn unit(self) -> Unit
         ensures { result ≡ unit_of self }
@@ -125,7 +111,7 @@ impl Element {
     pub fn takes(self, value: i32) -> bool
         ensures { result ≡ takes self value }
     {
-        self.lowest() <= value && value <= self.highest()
+        (self.lowest()..=self.highest()).contains(&value)
     }
 
     // The letters by which tables and messages name the element.
@@ -146,5 +132,28 @@ impl Element {
             Element::Visibility => "V",
             Element::Weather => "W",
         }
+    }
+}
+
+// The number by which calls and files name an element.
+impl From<Element> for u8 {
+    ghost from_gives = { λ x n. n ≡ element_number x };
+
+    fn from(element: Element) -> u8 {
+        element as u8
+    }
+}
+
+// The element with a number.
+impl TryFrom<i32> for Element {
+    type Error = Refusal;
+
+    ghost try_from_gives = { λ n r. BearerOf element_number n (element_numbered n) NoElement r };
+
+    fn try_from(number: i32) -> Result<Element, Refusal> {
+        if !(1..=LAST).contains(&number) {
+            return Err(Refusal::Element);
+        }
+        Ok(Element::ALL[(number - 1) as usize])
     }
 }

@@ -29,9 +29,7 @@ impl Sheet {
             return Err(Refusal::Sheet);
         }
         let calendar = CalendarMonth::check(year, month)?;
-        let Some(wind) = WindIndicator::numbered(iw) else {
-            return Err(Refusal::Sheet);
-        };
+        let wind = WindIndicator::try_from(iw)?;
         Ok(Sheet {
             station: station as u32,
             calendar,
@@ -61,5 +59,5 @@ impl Sheet {
 pub fn is_station(number: i32) -> bool
     ensures { result ≡ is_station number }
 {
-    FIRST_STATION <= number && number <= LAST_STATION
+    (FIRST_STATION..=LAST_STATION).contains(&number)
 }

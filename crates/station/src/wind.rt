@@ -1,7 +1,10 @@
 // How a station observes its wind, both in metres per second.
 ghost use Rattle.std.specs.Prelude.{◌≡◌};
-ghost use Rattle.station.specs.Numbers.{Bearing};
+ghost use Rattle.station.specs.Refusals.{BearerOf};
+ghost use Rattle.station.specs.declared.refusal.Refusal.TheVariants.{Sheet};
 ghost use Rattle.station.specs.Sheets.{indicator_number, indicator_numbered};
+
+use crate::refusal::Refusal;
 
 #[derive(Clone, Copy, PartialEq, Eq, Debug)]
 pub enum WindIndicator {
@@ -9,23 +12,26 @@ pub enum WindIndicator {
     Measured = 1,
 }
 
-impl WindIndicator {
-    // The code figure iw.
-    pub fn number(self) -> u8
-        ensures { result ≡ indicator_number self }
-    {
-        self as u8
-    }
+// The code figure iw.
+impl From<WindIndicator> for u8 {
+    ghost from_gives = { λ w n. n ≡ indicator_number w };
 
-    // The indicator that bears this code figure.
-    pub fn numbered(number: i32) -> Option<WindIndicator>
-        ensures answer { result ≡ indicator_numbered number }
-        ensures bears { Bearing indicator_number number result }
-    {
+    fn from(indicator: WindIndicator) -> u8 {
+        indicator as u8
+    }
+}
+
+// The indicator with a code figure.
+impl TryFrom<i32> for WindIndicator {
+    type Error = Refusal;
+
+    ghost try_from_gives = { λ n r. BearerOf indicator_number n (indicator_numbered n) Sheet r };
+
+    fn try_from(number: i32) -> Result<WindIndicator, Refusal> {
         match number {
-            0 => Some(WindIndicator::Estimated),
-            1 => Some(WindIndicator::Measured),
-            _ => None,
+            0 => Ok(WindIndicator::Estimated),
+            1 => Ok(WindIndicator::Measured),
+            _ => Err(Refusal::Sheet),
         }
     }
 }

@@ -20,4 +20,5 @@ returns c =
       | else-self-eq-FEBRUARY-via-then-self-eq-FEBRUARY+else-is_leap w ↦ and_right _ _ (sym w.if-is_leap.ensures)
       | else-self-eq-FEBRUARY-via-else-self-eq-FEBRUARY w ↦ and_left _ _ (ne_eqb _ _ w.if-self-eq-FEBRUARY.false)
     ] in
-    record { value = common_month _ _ other; least = bounds.0; most = bounds.1 }
+    let month : c.from.result ≡ c.args.self.month = search rules in
+    record { value = rw month (common_month c.args.self.year c.args.self.month other); least = rw month bounds.0; most = rw month bounds.1 }
