@@ -3,7 +3,7 @@ ghost use Rattle.std.specs.Prelude.{◌≡◌, ◌<◌, ◌≤◌, pos};
 ghost use Rattle.station.specs.Refusals.{Answered, unless};
 ghost use Rattle.station.specs.Elements.{element_number};
 ghost use Rattle.daybook.specs.Grid.{pair_count, place};
-ghost use Rattle.daybook.specs.Calls.{day_refusal, element_refusal, pair_refusal, value_refusal};
+ghost use Rattle.daybook.specs.Calls.{day_refusal, pair_refusal, value_refusal};
 
 use station::element::Element;
 use station::refusal::Refusal;
@@ -12,8 +12,8 @@ const LAST_DAY: i32 = 31;
 
 const ELEMENTS: usize = 12;
 
-// A checked pair: its day is one from 1 to 31.
-#[derive(Clone, Copy)]
+// A checked pair: its day is one from 1 to 31. Pairs go by day, then by element.
+#[derive(Clone, Copy, PartialEq, Eq, PartialOrd, Ord)]
 pub struct Pair {
     day: u8,
     element: Element,
@@ -26,7 +26,7 @@ impl Pair {
         ensures { Answered (pair_refusal day element) result (λ p. (pos p.day ≡ day) × (pos (element_number p.element) ≡ element)) }
     {
         let day = check_day(day)?;
-        let element = check_element(element)?;
+        let element = Element::try_from(element)?;
         Ok(Pair { day, element })
     }
 
@@ -69,24 +69,16 @@ impl Pair {
         ensures value { result ≡ place self.day (element_number self.element) }
         ensures below { result < pair_count }
     {
-        ELEMENTS * (self.day as usize - 1) + (self.element.number() as usize - 1)
+        let number = u8::from(self.element);
+        ELEMENTS * (usize::from(self.day) - 1) + (usize::from(number) - 1)
     }
 }
 
 fn check_day(day: i32) -> Result<u8, Refusal>
     ensures { Answered (day_refusal day) result (λ d. pos d ≡ day) }
 {
-    if day < 1 || day > LAST_DAY {
+    if !(1..=LAST_DAY).contains(&day) {
         return Err(Refusal::Day);
     }
     Ok(day as u8)
-}
-
-fn check_element(number: i32) -> Result<Element, Refusal>
-    ensures { Answered (element_refusal number) result (λ x. pos (element_number x) ≡ number) }
-{
-    match Element::numbered(number) {
-        Some(element) => Ok(element),
-        None => Err(Refusal::Element),
-    }
 }

@@ -28,11 +28,7 @@ pub fn carry_out<B: DaySource + Daybook>(book: &mut B, log: &mut [Logged])
     ensures ceiling { B.limit book.new ≡ B.limit book.old }
     ensures laws { RunsBy (B.grid book.old) (B.limit book.old) log.new (B.grid book.new) }
 {
-    for i in 0..log.len() {
-        let call = log[i].call;
-        log[i] = Logged {
-            call,
-            answer: Some(perform(book, call)),
-        };
+    for logged in log {
+        logged.answer = Some(perform(book, logged.call));
     }
 }

@@ -11,11 +11,11 @@ use station::refusal::Refusal;
 pub trait DaySource {
     ghost grid: { Self → Grid };
 
-    ghost valid: { (s : Self) → Valid (grid s) };
-
     fn look_up(&self, day: i32, element: i32) -> Result<Option<i32>, Refusal>
         ensures answer { result ≡ looked_up (Self.grid self.now) day element }
         ensures same { self.exit.now ≡ self.entry.now };
+
+    ghost valid: { (s : Self) → Valid (grid s) };
 }
 
 // A day source that takes entries and strikes, as long as no more pairs are filled than its ceiling, which never changes.
