@@ -1,6 +1,7 @@
 -- The number of each refusal, and what a call with a refusal answers.
-use Rattle.std.specs.Prelude.{◌≡◌, ℕ, Bool, cond, ℤ, Some, None, Ok, Err, Option, Result, ok_or}
+use Rattle.std.specs.Prelude.{◌≡◌, ℕ, Bool, cond, List, ℤ, Some, None, Ok, Err, Option, Result, ok_or}
 use Rattle.station.specs.declared.refusal.Refusal.{Refusal}
+use Rattle.std.specs.Fmt.{decimal}
 use Rattle.station.specs.Numbers.{Bearing}
 use Rattle.station.specs.declared.refusal.Refusal.TheVariants.{Sheet, Normal, Day, Element, Value, Full, Empty, Room, Month, Malformed}
 
@@ -16,6 +17,10 @@ refusal_number Empty = 7
 refusal_number Room = 8
 refusal_number Month = 9
 refusal_number Malformed = 18
+
+-- its number in decimal digits
+abbrev pub refusal_text : Refusal → List ℕ
+refusal_text r = decimal (refusal_number r)
 
 -- the refusal where the test fails, and none where it passes
 abbrev pub requiring : Bool → Refusal → Option Refusal

@@ -1,5 +1,6 @@
 -- The station sheet: a station, a month of a year, and how the wind is observed.
-use Rattle.std.specs.Prelude.{ℕ, Bool, ◌&&◌, List, [], ◌∷◌, ℤ, pos, is_some, Option}
+use Rattle.std.specs.Prelude.{ℕ, ◌-◌, ◌^◌, Bool, false, ◌&&◌, List, [], ◌∷◌, ◌++◌, ℤ, pos, is_some, Option, codes}
+use Rattle.std.specs.Fmt.{decimal, format_spec, padded_integral}
 use Rattle.station.specs.declared.refusal.Refusal.{Refusal}
 use Rattle.station.specs.declared.refusal.Refusal.TheVariants.{Sheet}
 use Rattle.station.specs.declared.wind.WindIndicator.{WindIndicator}
@@ -40,3 +41,12 @@ is_indicator n = is_some (indicator_numbered n)
 -- a sheet is declined exactly where one of its four numbers lies outside its limits
 unfoldable pub sheet_refusal : ℤ → ℤ → ℤ → ℤ → Option Refusal
 sheet_refusal station year month iw = requiring (is_station station && (is_month year month && is_indicator iw)) Sheet
+
+-- a number in five decimal digits, with noughts before it where it has fewer
+abbrev pub five_digits : ℕ → List ℕ
+five_digits n = padded_integral (format_spec 32 0 4 5 (2 ^ 64 - 1)) false [] (decimal n)
+
+-- how a sheet is shown
+abbrev pub sheet_text : ℕ → ℕ → ℕ → ℕ → List ℕ
+sheet_text station year month iw =
+    codes "station " ++ five_digits station ++ codes " year " ++ decimal year ++ codes " month " ++ decimal month ++ codes " iw " ++ decimal iw

@@ -1,11 +1,12 @@
 // The station sheet: whose month it is, and how its wind is observed.
-ghost use Rattle.std.specs.Prelude.{◌≡◌, ◌≤◌, pos};
+ghost use Rattle.std.specs.Prelude.{◌≡◌, ◌≤◌, pos, Some};
 ghost use Rattle.station.specs.Refusals.{Answered};
-ghost use Rattle.station.specs.Sheets.{is_station, sheet_refusal, indicator_number};
+ghost use Rattle.station.specs.Sheets.{is_station, sheet_refusal, indicator_number, sheet_text};
 
 use crate::calendar::CalendarMonth;
 use crate::refusal::Refusal;
 use crate::wind::WindIndicator;
+use std::fmt;
 
 const FIRST_STATION: i32 = 1000;
 
@@ -60,4 +61,16 @@ pub fn is_station(number: i32) -> bool
     ensures { result ≡ is_station number }
 {
     (FIRST_STATION..=LAST_STATION).contains(&number)
+}
+
+impl fmt::Display for Sheet {
+    ghost output = { λ s. Some (sheet_text s.station s.calendar.year s.calendar.month (indicator_number s.wind)) };
+
+    fn fmt<W: fmt::Write>(&self, f: &mut fmt::Formatter<W>) -> fmt::Result {
+        let station = self.station;
+        let year = self.calendar.year();
+        let month = self.calendar.month();
+        let iw = u8::from(self.wind);
+        write!(f, "station {station:05} year {year} month {month} iw {iw}")
+    }
 }
