@@ -4,6 +4,7 @@
 pub mod condition;
 pub mod count;
 pub mod limit;
+pub mod month;
 pub mod phenomenon;
 pub mod sums;
 pub mod table;
