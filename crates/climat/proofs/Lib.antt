@@ -1,1 +1,2 @@
 pub mod OnSpan
+pub mod OnRanges

@@ -58,15 +58,15 @@ fn show_year(rt: &HostRuntime, year: i32) -> io::Result<()> {
     for month in 0..14 {
         match CalendarMonth::check(year, month) {
             Ok(found) => print!(rt; " {}", found.length())?,
-            Err(refusal) => print!(rt; " ({})", refusal.number())?,
+            Err(refusal) => print!(rt; " ({refusal})")?,
         }
     }
     println!(rt; "")
 }
 
 fn show_element(rt: &HostRuntime, number: i32) -> io::Result<()> {
-    match Element::numbered(number) {
-        Some(element) => {
+    match Element::try_from(number) {
+        Ok(element) => {
             print!(rt;
                 "{number} {} {}..{}:",
                 element.symbol(),
@@ -78,20 +78,21 @@ fn show_element(rt: &HostRuntime, number: i32) -> io::Result<()> {
             }
             println!(rt; "")
         }
-        None => println!(rt; "{number} none"),
+        Err(_) => println!(rt; "{number} none"),
     }
 }
 
-fn show_sheet(rt: &HostRuntime, numbers: &[i32; 4]) -> io::Result<()> {
-    match Sheet::check(numbers[0], numbers[1], numbers[2], numbers[3]) {
+fn show_sheet(rt: &HostRuntime, numbers: [i32; 4]) -> io::Result<()> {
+    let [station, year, month, iw] = numbers;
+    match Sheet::check(station, year, month, iw) {
         Ok(sheet) => println!(rt;
             "sheet {} {} {} {}",
             sheet.station(),
             sheet.calendar().year(),
             sheet.calendar().month(),
-            sheet.wind().number()
+            u8::from(sheet.wind())
         ),
-        Err(refusal) => println!(rt; "declined with {}", refusal.number()),
+        Err(refusal) => println!(rt; "declined with {refusal}"),
     }
 }
 
@@ -102,7 +103,7 @@ fn main(rt: HostRuntime) -> io::Result<()> {
     for number in -1..15 {
         show_element(&rt, number)?;
     }
-    for numbers in &SHEETS {
+    for numbers in SHEETS {
         show_sheet(&rt, numbers)?;
     }
     Ok(())
