@@ -1,10 +1,7 @@
-use Rattle.std.proofs.Common.{◌<◌, ◌≤◌, length, sym, refl, ◌∙◌, arith}
+use Rattle.std.proofs.Common.{◌<◌, ◌≤◌, length, sym, ◌∙◌, arith}
 use Rattle.daybook.proofs.OnLaws.{runs_by}
 use Rattle.daybook.proofs.OnRuns.{log_more, standing_more, log_all, standing_all}
 use Rattle.daybook.proofs.run.carry_out.Goals as goal
-
-pub loop-logged-init : goal.loop-logged-init
-loop-logged-init g c = (refl, refl, refl)
 
 pub loop-logged-preserved : goal.loop-logged-preserved
 loop-logged-preserved g c =
