@@ -1,5 +1,5 @@
 -- Which pairs and values are declined. Assumes nothing.
-use Rattle.std.proofs.Common.{◌≡◌, ℕ, ◌≤◌, true, false, ℤ, pos, negsuc, is_some, Some, None, Ok, Err, Option, sym, refl, arith}
+use Rattle.std.proofs.Common.{◌≡◌, ℕ, ◌≤◌, true, ℤ, pos, negsuc, is_some, Some, None, Ok, Err, Option, sym, refl, arith}
 use Rattle.std.proofs.lemmas.Bool.Decides.{nat_tests}
 use Rattle.station.specs.declared.element.Element.{Element as Quantity}
 use Rattle.station.specs.declared.refusal.Refusal.{Refusal}
@@ -11,14 +11,6 @@ use Rattle.station.proofs.OnRefusals.{declined, accepted, passed, none_first, no
 use Rattle.daybook.specs.declared.pair.Pair.{Pair}
 use Rattle.daybook.specs.Grid.{is_day}
 use Rattle.daybook.specs.Calls.{pair_refusal}
-
-pub wrong_day : (d e : ℤ) → is_day d ≡ false → pair_refusal d e ≡ Some Day
-unfolding pair_refusal
-wrong_day d e h = rw h
-
-pub wrong_element : (d e : ℤ) → is_day d ≡ true → element_numbered e ≡ None → pair_refusal d e ≡ Some Element
-unfolding pair_refusal
-wrong_element d e h n = rw (h, n)
 
 pub right_pair : (d e : ℤ) (x : Quantity) → is_day d ≡ true → element_numbered e ≡ Some x → pair_refusal d e ≡ None
 unfolding pair_refusal
