@@ -159,7 +159,7 @@ impl Figure for DayCode {
 pub fn coded<F: Figure>(field: Field<F>) -> Field<u32>
     ensures { result ≡ on_field F.Figure.code field }
 {
-    field.map(|figure| figure.code())
+    field.map(F::code)
 }
 
 // A field with the figure that its digits stand for.

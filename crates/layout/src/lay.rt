@@ -10,7 +10,7 @@ use crate::split::split;
 fn is_silent(group: Group, figures: &[Option<u32>]) -> bool
     ensures { result ≡ is_silent group figures.now }
 {
-    figures.iter().all(|figure| figure.is_none())
+    figures.iter().all(Option::is_none)
         || (group.noughts && figures.iter().all(|figure| *figure == Some(0)))
 }
 
@@ -20,7 +20,7 @@ fn cell_of(silent: bool, figure: Option<u32>) -> Field<u32>
     if silent {
         return Field::LeftOut;
     }
-    figure.map_or(Field::Barred, |number| Field::Shown(number))
+    figure.map_or(Field::Barred, Field::Shown)
 }
 
 // Writes the fields of a group over as many cells.
