@@ -1,17 +1,29 @@
 // A section's fields, from the figures that there are.
 ghost use Rattle.std.specs.Prelude.{◌≡◌, length, if◌then◌else◌, nat_eq};
-ghost use Rattle.layout.specs.Laid.{is_silent, cell_of, settled, laid, laid_out, LaidLawful};
+ghost use Rattle.std.specs.List.{list_all};
+ghost use Rattle.layout.specs.Laid.{is_absent, is_zero, is_silent, cell_of, settled, laid, laid_out, LaidLawful};
 
 use crate::field::Field;
 use crate::row::Group;
 use crate::section::Section;
 use crate::split::split;
 
+fn are_absent(figures: &[Option<u32>]) -> bool
+    ensures { result ≡ list_all is_absent figures.now }
+{
+    figures.iter().all(Option::is_none)
+}
+
+fn are_zero(figures: &[Option<u32>]) -> bool
+    ensures { result ≡ list_all is_zero figures.now }
+{
+    figures.iter().all(|figure| *figure == Some(0))
+}
+
 fn is_silent(group: Group, figures: &[Option<u32>]) -> bool
     ensures { result ≡ is_silent group figures.now }
 {
-    figures.iter().all(Option::is_none)
-        || (group.noughts && figures.iter().all(|figure| *figure == Some(0)))
+    are_absent(figures) || (group.noughts && are_zero(figures))
 }
 
 fn cell_of(silent: bool, figure: Option<u32>) -> Field<u32>
