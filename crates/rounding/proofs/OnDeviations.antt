@@ -134,10 +134,12 @@ kept_facts n s squares e =
     (least, days, record { sum_within = sum; squares_within = most; squares_enough = enough })
 
 pub divisor_positive : (n : ℕ) → least_days ≤ n → 0 < deviation_divisor n
+unfolding deviation_divisor
 divisor_positive n h = let m = mul-le 1 1 n n h h in omega arith
 
 -- the root of such a scatter is below the most that a deviation can be, and half a tenth
 scatter_below : (n : ℕ) (s : ℤ) (squares : ℕ) → least_days ≤ n → SumsHold n s squares → 4 * scatter n s squares < (2 * most_deviation + 1) * (2 * most_deviation + 1) * deviation_divisor n
+unfolding deviation_divisor
 scatter_below n s squares h sums =
     let m = mul-le n squares n (farthest * farthest * n) (omega arith) sums.squares_within in
     let one = mul-le 1 1 n n h h in

@@ -22,7 +22,7 @@ abbrev pub scatter : ℕ → ℤ → ℕ → ℕ
 scatter n s squares = n * squares - unsigned_abs s * unsigned_abs s
 
 -- what the scatter of n values is divided by under the root
-abbrev pub deviation_divisor : ℕ → ℕ
+unfoldable pub deviation_divisor : ℕ → ℕ
 deviation_divisor n = n * n
 
 -- k is the whole number nearest to the root of q / divisor, halves up: k - 1/2 ≤ root < k + 1/2, in squares and times 4

@@ -31,6 +31,7 @@ returns-in_err-scatter c =
     record { value = c.from_residual.ensures ∙ none_deviates n s squares broken; law = subst (λ (z : Option ℕ). Deviated n s squares z) (sym c.from_residual.ensures) broken; sums = sums_grow }
 
 pub nearest_root-requires : goal.nearest_root-requires
+unfolding deviation_divisor
 nearest_root-requires c =
     let positive = divisor_positive c.args.count (omega arith) in
     let same : c.from-n.result ≡ c.args.count = omega arith in
@@ -50,6 +51,7 @@ tested c =
 
 -- what the root says, in the words of the definition
 deviates : (c : goal.After-nearest_root) → IsDeviation c.args.count c.args.sum c.args.squares c.nearest_root.result
+unfolding deviation_divisor
 deviates c =
     let n = c.args.count in
     let s = c.args.sum in
