@@ -1,6 +1,7 @@
 -- How many bytes a section takes at most. Assumes nothing.
 use Rattle.std.proofs.Common.{◌≡◌, ℕ, ◌+◌, ◌≤◌, true, false, cond, List, [], ◌∷◌, ◌++◌, length, take, drop, refl, arith, length-append}
 use lib.ListN.{length-replicate}
+use Rattle.std.specs.List.{list_all}
 use Rattle.text.specs.Digits.{digits}
 use Rattle.text.proofs.OnDigits.{length_digits}
 use Rattle.layout.specs.declared.field.Field.TheVariants.{Shown, Barred, LeftOut}
@@ -9,7 +10,7 @@ use Rattle.layout.specs.declared.row.Group.{Group}
 use Rattle.layout.specs.declared.section.Section.{Section}
 use Rattle.layout.specs.declared.section.Section.TheVariants.{First, Second, Third, Fourth}
 use Rattle.layout.specs.Tables.{groups_of, rows_of, number_of}
-use Rattle.layout.specs.Lawful.{Cell, every, is_left_out}
+use Rattle.layout.specs.Lawful.{Cell, is_left_out}
 use Rattle.layout.specs.Texts.{field_text, fields_text, group_text, groups_text, section_text, most_bytes}
 
 -- the widths of fields
@@ -37,7 +38,7 @@ group_room : (g : Group) (rows : List Row) (cells : List Cell) → length (group
 group_room g rows cells =
     let standing : length (32 ∷ (digits 1 g.digit ++ fields_text rows cells)) ≤ 2 + widths rows =
     omega (arith, length-append (digits 1 g.digit) (fields_text rows cells), length_digits 1 g.digit, fields_room rows cells) in
-    elim (every is_left_out cells) as (λ b. length (cond b [] (32 ∷ (digits 1 g.digit ++ fields_text rows cells))) ≤ 2 + widths rows) [ true ↦ omega arith | false ↦ standing ]
+    elim (list_all is_left_out cells) as (λ b. length (cond b [] (32 ∷ (digits 1 g.digit ++ fields_text rows cells))) ≤ 2 + widths rows) [ true ↦ omega arith | false ↦ standing ]
 
 groups_room : (groups : List Group) (rows : List Row) (cells : List Cell) → length (groups_text groups rows cells) ≤ room groups rows
 unfolding groups_text room
@@ -67,4 +68,4 @@ pub section_room : (s : Section) (cells : List Cell) → length (section_text s 
 section_room s cells =
     let standing : length (32 ∷ (number_of s ++ groups_text (groups_of s) (rows_of s) cells)) ≤ most_bytes s =
     omega (arith, length-append (number_of s) (groups_text (groups_of s) (rows_of s) cells), number_length s, groups_room (groups_of s) (rows_of s) cells, section_sum s) in
-    elim (every is_left_out cells) as (λ b. length (cond b [] (32 ∷ (number_of s ++ groups_text (groups_of s) (rows_of s) cells))) ≤ most_bytes s) [ true ↦ omega arith | false ↦ standing ]
+    elim (list_all is_left_out cells) as (λ b. length (cond b [] (32 ∷ (number_of s ++ groups_text (groups_of s) (rows_of s) cells))) ≤ most_bytes s) [ true ↦ omega arith | false ↦ standing ]

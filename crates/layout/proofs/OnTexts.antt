@@ -1,13 +1,12 @@
 -- The text of fields and groups, one after the other, as a draft takes it. Assumes nothing.
-use Rattle.std.proofs.Common.{◌≡◌, ℕ, ◌+◌, ◌-◌, ◌<◌, ◌≤◌, min, Bool, true, ◌&&◌, List, [], ◌∷◌, ◌++◌, length, get_or, take, drop, sym, refl, ap, ◌∙◌, ⊎_elim, append_assoc, arith, length-drop}
-use Rattle.std.proofs.lemmas.List.{drop_more, drop_all, take_all}
-use Rattle.std.proofs.lemmas.Bool.{cases_lt}
+use Rattle.std.proofs.Common.{◌≡◌, ℕ, ◌+◌, ◌<◌, ◌≤◌, List, [], ◌∷◌, ◌++◌, length, get_or, take, drop, sym, refl, ap, ap₂, ◌∙◌, ◌⊎◌, ⊎_elim, append_assoc}
+use Rattle.std.proofs.lemmas.List.{drop_more, drop_all}
 use Rattle.text.specs.declared.draft.Draft.{Draft}
 use Rattle.text.specs.Drafts.{kept, text_of}
 use Rattle.text.proofs.OnDrafts.{kept_again, none_written}
 use Rattle.layout.specs.declared.row.Row.{Row}
 use Rattle.layout.specs.declared.row.Group.{Group}
-use Rattle.layout.specs.Lawful.{Cell, every}
+use Rattle.layout.specs.Lawful.{Cell}
 use Rattle.layout.specs.Texts.{field_text, fields_text, group_text, groups_text}
 
 -- ---- one part of a text after the other
@@ -19,26 +18,22 @@ pub all_written : (all : List ℕ) (d : Draft) (rest : List ℕ) → all ≡ kep
 all_written all d rest h e = none_written d ∙ ap (λ z. kept (text_of d ++ z)) (sym e) ∙ sym h
 
 -- ---- fields
+pub field_next : (r : Row) (c : Cell) {rows rows-behind : List Row} {cells cells-behind : List Cell} → rows ≡ r ∷ rows-behind → cells ≡ c ∷ cells-behind → fields_text rows cells ≡ field_text r c ++ fields_text rows-behind cells-behind
+unfolding fields_text
+field_next r c e e' = ap₂ fields_text e e'
+
 no_cells : (rows : List Row) → fields_text rows [] ≡ []
 unfolding fields_text
 no_cells [] = refl
 no_cells (r ∷ rows) = refl
 
-pub fields_at : (rows : List Row) (cells : List Cell) (i : ℕ) (r : Row) (c : Cell) → i < length rows → i < length cells →
-    fields_text (drop i rows) (drop i cells) ≡ field_text (get_or rows i r) (get_or cells i c) ++ fields_text (drop (i + 1) rows) (drop (i + 1) cells)
+no_rows : (cells : List Cell) → fields_text [] cells ≡ []
 unfolding fields_text
-fields_at rows cells i r c l k = rw (drop_more rows i r l, drop_more cells i c k)
+no_rows cells = refl
 
-rows_over : (rows : List Row) (cells : List Cell) (i : ℕ) → length rows ≤ i → fields_text (drop i rows) (drop i cells) ≡ []
-unfolding fields_text
-rows_over rows cells i l = rw (drop_all i rows l)
-
-pub fields_over : (rows : List Row) (cells : List Cell) (i : ℕ) → min (length rows) (length cells) ≤ i → fields_text (drop i rows) (drop i cells) ≡ []
-fields_over rows cells i h =
-    ⊎_elim
-    (λ (l : i < length rows). let k : length cells ≤ i = omega arith in rw (drop_all i cells k) (no_cells (drop i rows)))
-    (λ (l : length rows ≤ i). rows_over rows cells i l)
-    (cases_lt i (length rows))
+-- no row or no cell is left
+pub no_field : (rows : List Row) (cells : List Cell) → (rows ≡ []) ⊎ (cells ≡ []) → fields_text rows cells ≡ []
+no_field rows cells none = ⊎_elim (λ e. ap (λ rs. fields_text rs cells) e ∙ no_rows cells) (λ e. ap (fields_text rows) e ∙ no_cells rows) none
 
 -- ---- groups
 pub groups_at : (groups : List Group) (rows : List Row) (cells : List Cell) (i : ℕ) (g : Group) → i < length groups →
@@ -51,31 +46,3 @@ groups_at groups rows cells i g l = rw (drop_more groups i g l)
 pub groups_over : (groups : List Group) (rows : List Row) (cells : List Cell) (i : ℕ) → length groups ≤ i → groups_text (drop i groups) rows cells ≡ []
 unfolding groups_text
 groups_over groups rows cells i l = rw (drop_all i groups l)
-
--- ---- fields that are left out
-pub every_at : (passes : Cell → Bool) (cells : List Cell) (i : ℕ) (c : Cell) → i < length cells → every passes (drop i cells) ≡ (passes (get_or cells i c) && every passes (drop (i + 1) cells))
-unfolding every
-every_at passes cells i c l = rw (drop_more cells i c l)
-
-pub every_over : (passes : Cell → Bool) (cells : List Cell) (i : ℕ) → length cells ≤ i → every passes (drop i cells) ≡ true
-unfolding every
-every_over passes cells i l = rw (drop_all i cells l)
-
--- ---- the first of some items, and those behind them
-module _ {X : Type 0} (xs : List X) (n m : ℕ) (h : m ≡ min n (length xs)) where
-  pub front_of : take (m - 0) xs ≡ take n xs
-  front_of =
-      ⊎_elim
-      (λ (l : n < length xs). let e : m - 0 ≡ n = omega arith in ap (λ k. take k xs) e)
-      (λ (l : length xs ≤ n). let e : length xs ≤ m - 0 = omega arith in take_all (m - 0) xs e ∙ sym (take_all n xs l))
-      (cases_lt n (length xs))
-
-  pub drop_of : drop m xs ≡ drop n xs
-  drop_of =
-      ⊎_elim
-      (λ (l : n < length xs). let e : m ≡ n = omega arith in ap (λ k. drop k xs) e)
-      (λ (l : length xs ≤ n). let e : length xs ≤ m = omega arith in drop_all m xs e ∙ sym (drop_all n xs l))
-      (cases_lt n (length xs))
-
-  pub behind_of : take (length xs - m) (drop m xs) ≡ drop n xs
-  behind_of = take_all (length xs - m) (drop m xs) (omega (arith, length-drop m xs)) ∙ drop_of

@@ -1,5 +1,6 @@
 -- A section's fields, from the figures that there are.
-use Rattle.std.specs.Prelude.{◌≡◌, ℕ, Bool, true, false, cond, not, ◌&&◌, ◌||◌, List, [], ◌∷◌, ◌++◌, length, take, drop, Some, None, Option, ◌==◌, nat_le}
+use Rattle.std.specs.Prelude.{◌≡◌, ℕ, Bool, true, false, cond, not, ◌&&◌, ◌||◌, List, [], ◌∷◌, ◌++◌, length, map, take, drop, Some, None, Option, ◌==◌, nat_le}
+use Rattle.std.specs.List.{list_all}
 use Rattle.layout.specs.declared.field.Field.TheVariants.{Shown, Barred, LeftOut}
 use Rattle.layout.specs.declared.row.Row.{Row}
 use Rattle.layout.specs.declared.row.Group.{Group}
@@ -17,14 +18,9 @@ abbrev pub is_zero : Option ℕ → Bool
 is_zero None = false
 is_zero (Some n) = n == 0
 
--- every figure passes
-unfoldable pub each : (Option ℕ → Bool) → List (Option ℕ) → Bool
-each passes [] = true
-each passes (f ∷ figures) = passes f && each passes figures
-
 -- a group that is left out: it has no figure, or, where such a group is left out, nothing but noughts
 abbrev pub is_silent : Group → List (Option ℕ) → Bool
-is_silent g figures = each is_absent figures || (g.noughts && each is_zero figures)
+is_silent g figures = list_all is_absent figures || (g.noughts && list_all is_zero figures)
 
 -- a field: left out in a silent group, else its figure, or a bar where there is none
 abbrev pub cell_of : Bool → Option ℕ → Cell
@@ -33,9 +29,8 @@ cell_of false None = Barred
 cell_of false (Some n) = Shown n
 
 -- the fields of a group that is silent, or not
-unfoldable pub settled : Bool → List (Option ℕ) → List Cell
-settled silent [] = []
-settled silent (f ∷ figures) = cell_of silent f ∷ settled silent figures
+abbrev pub settled : Bool → List (Option ℕ) → List Cell
+settled silent figures = map (cell_of silent) figures
 
 -- the fields of groups, one after the other; what belongs to no group is left out
 unfoldable pub laid : List Group → List (Option ℕ) → List Cell

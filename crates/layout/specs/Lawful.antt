@@ -1,5 +1,6 @@
 -- Which fields of a section are lawful.
 use Rattle.std.specs.Prelude.{ℕ, ◌+◌, ◌^◌, Bool, true, false, cond, not, ◌&&◌, ◌||◌, List, [], ◌∷◌, take, drop, ◌==◌, nat_le, nat_lt}
+use Rattle.std.specs.List.{list_all}
 use Rattle.layout.specs.declared.field.Field.{Field}
 use Rattle.layout.specs.declared.field.Field.TheVariants.{Shown, Barred, LeftOut}
 use Rattle.layout.specs.declared.row.Kind.{Kind}
@@ -85,14 +86,9 @@ all_good d [] lead (c ∷ cells) = false
 all_good d (r ∷ rows) lead [] = false
 all_good d (r ∷ rows) lead (c ∷ cells) = is_good d r lead c && all_good d rows (next_lead r.tie lead c) cells
 
--- every field passes
-unfoldable pub every : (Cell → Bool) → List Cell → Bool
-every passes [] = true
-every passes (c ∷ cells) = passes c && every passes cells
-
 -- a group that tells nothing: all its fields are barred, or all are nought where such a group is left out
 abbrev pub tells_nothing : Group → List Cell → Bool
-tells_nothing g cells = every is_barred cells || (g.noughts && every is_nought cells)
+tells_nothing g cells = list_all is_barred cells || (g.noughts && list_all is_nought cells)
 
 -- a group that stands and may: its fields are good and tell something
 abbrev pub stands_well : ℕ → Group → List Row → List Cell → Bool
@@ -103,7 +99,7 @@ unfoldable pub groups_lawful : ℕ → List Group → List Row → List Cell →
 groups_lawful d [] rows [] = true
 groups_lawful d [] rows (c ∷ cells) = false
 groups_lawful d (g ∷ groups) rows cells =
-    (stands_well d g (take g.count rows) (take g.count cells) || (not g.required && every is_left_out (take g.count cells)))
+    (stands_well d g (take g.count rows) (take g.count cells) || (not g.required && list_all is_left_out (take g.count cells)))
     && groups_lawful d groups (drop g.count rows) (drop g.count cells)
 
 -- the fields of a section that stands, in a month of d days

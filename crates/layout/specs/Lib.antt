@@ -1,4 +1,5 @@
 pub mod Tables
+pub mod Fields
 pub mod Lawful
 pub mod Figures
 pub mod Texts

@@ -1,5 +1,6 @@
 -- The text of a section's fields.
 use Rattle.std.specs.Prelude.{ℕ, cond, List, [], ◌∷◌, ◌++◌, take, drop}
+use Rattle.std.specs.List.{list_all}
 use Rattle.text.specs.Digits.{digits, bars}
 use Rattle.layout.specs.declared.field.Field.TheVariants.{Shown, Barred, LeftOut}
 use Rattle.layout.specs.declared.row.Row.{Row}
@@ -7,7 +8,7 @@ use Rattle.layout.specs.declared.row.Group.{Group}
 use Rattle.layout.specs.declared.section.Section.{Section}
 use Rattle.layout.specs.declared.section.Section.TheVariants.{First, Second, Third, Fourth}
 use Rattle.layout.specs.Tables.{groups_of, rows_of, number_of}
-use Rattle.layout.specs.Lawful.{Cell, every, is_left_out}
+use Rattle.layout.specs.Lawful.{Cell, is_left_out}
 
 -- a space
 abbrev pub space : ℕ
@@ -27,7 +28,7 @@ fields_text (r ∷ rows) (c ∷ cells) = field_text r c ++ fields_text rows cell
 
 -- a group: a space, its digit and its fields; nothing where it is left out
 abbrev pub group_text : Group → List Row → List Cell → List ℕ
-group_text g rows cells = cond (every is_left_out cells) [] (space ∷ (digits 1 g.digit ++ fields_text rows cells))
+group_text g rows cells = cond (list_all is_left_out cells) [] (space ∷ (digits 1 g.digit ++ fields_text rows cells))
 
 -- groups one after the other
 unfoldable pub groups_text : List Group → List Row → List Cell → List ℕ
@@ -37,7 +38,7 @@ groups_text (g ∷ groups) rows cells =
 
 -- a section: a space, its number and its groups; nothing where it has no group
 abbrev pub section_text : Section → List Cell → List ℕ
-section_text s cells = cond (every is_left_out cells) [] (space ∷ (number_of s ++ groups_text (groups_of s) (rows_of s) cells))
+section_text s cells = cond (list_all is_left_out cells) [] (space ∷ (number_of s ++ groups_text (groups_of s) (rows_of s) cells))
 
 -- the most bytes that a section takes
 abbrev pub most_bytes : Section → ℕ

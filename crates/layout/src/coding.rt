@@ -159,20 +159,12 @@ impl Figure for DayCode {
 pub fn coded<F: Figure>(field: Field<F>) -> Field<u32>
     ensures { result ≡ on_field F.Figure.code field }
 {
-    match field {
-        Field::Shown(figure) => Field::Shown(figure.code()),
-        Field::Barred => Field::Barred,
-        Field::LeftOut => Field::LeftOut,
-    }
+    field.map(F::code)
 }
 
 // A field with the figure that its digits stand for.
 pub fn decoded<F: Figure>(field: Field<u32>) -> Field<F>
     ensures { result ≡ on_field F.Figure.at field }
 {
-    match field {
-        Field::Shown(number) => Field::Shown(F::decoded(number)),
-        Field::Barred => Field::Barred,
-        Field::LeftOut => Field::LeftOut,
-    }
+    field.map(|number| F::decoded(number))
 }

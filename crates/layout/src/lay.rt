@@ -1,49 +1,23 @@
 // A section's fields, from the figures that there are.
-ghost use Rattle.std.specs.Prelude.{◌≡◌, true, length, if◌then◌else◌, nat_eq};
-ghost use Rattle.layout.specs.Laid.{is_absent, is_zero, each, is_silent, cell_of, settled, laid, laid_out, LaidLawful};
+ghost use Rattle.std.specs.Prelude.{◌≡◌, length, if◌then◌else◌, nat_eq};
+ghost use Rattle.std.specs.List.{list_all};
+ghost use Rattle.layout.specs.Laid.{is_absent, is_zero, is_silent, cell_of, settled, laid, laid_out, LaidLawful};
 
 use crate::field::Field;
 use crate::row::Group;
 use crate::section::Section;
-
-fn is_absent(figure: Option<u32>) -> bool
-    ensures { result ≡ is_absent figure }
-{
-    match figure {
-        Some(_) => false,
-        None => true,
-    }
-}
+use crate::split::split;
 
 fn are_absent(figures: &[Option<u32>]) -> bool
-    ensures { result ≡ each is_absent figures.now }
+    ensures { result ≡ list_all is_absent figures.now }
 {
-    for i in 0..figures.len() {
-        if !is_absent(figures[i]) {
-            return false;
-        }
-    }
-    true
-}
-
-fn is_zero(figure: Option<u32>) -> bool
-    ensures { result ≡ is_zero figure }
-{
-    match figure {
-        Some(number) => number == 0,
-        None => false,
-    }
+    figures.iter().all(Option::is_none)
 }
 
 fn are_zero(figures: &[Option<u32>]) -> bool
-    ensures { result ≡ each is_zero figures.now }
+    ensures { result ≡ list_all is_zero figures.now }
 {
-    for i in 0..figures.len() {
-        if !is_zero(figures[i]) {
-            return false;
-        }
-    }
-    true
+    figures.iter().all(|figure| *figure == Some(0))
 }
 
 fn is_silent(group: Group, figures: &[Option<u32>]) -> bool
@@ -58,10 +32,7 @@ fn cell_of(silent: bool, figure: Option<u32>) -> Field<u32>
     if silent {
         return Field::LeftOut;
     }
-    match figure {
-        Some(number) => Field::Shown(number),
-        None => Field::Barred,
-    }
+    figure.map_or(Field::Barred, Field::Shown)
 }
 
 // Writes the fields of a group over as many cells.
@@ -69,8 +40,8 @@ fn settle(silent: bool, figures: &[Option<u32>], cells: &mut [Field<u32>])
     requires { length figures.now ≡ length cells.old }
     ensures { cells.new ≡ settled silent figures.now }
 {
-    for i in 0..figures.len() {
-        cells[i] = cell_of(silent, figures[i]);
+    for (i, figure) in figures.iter().enumerate() {
+        cells[i] = cell_of(silent, *figure);
     }
 }
 
@@ -81,23 +52,21 @@ pub fn lay_out(section: Section, figures: &[Option<u32>], cells: &mut [Field<u32
     ensures lawful { LaidLawful section figures.now }
 {
     if figures.len() == cells.len() {
-        settle(true, figures, cells);
         lay(section.groups(), figures, cells);
     }
 }
 
 fn lay(groups: &[Group], figures: &[Option<u32>], cells: &mut [Field<u32>])
-    requires same { length figures.now ≡ length cells.old }
-    requires blank { cells.old ≡ settled true figures.now }
+    requires { length figures.now ≡ length cells.old }
     ensures { cells.new ≡ laid groups.now figures.now }
 {
-    let mut first = 0;
-    for i in 0..groups.len() {
-        let group = groups[i];
-        let count = group.count.min(figures.len() - first);
-        let end = first + count;
-        let part = &figures[first..end];
-        settle(is_silent(group, part), part, &mut cells[first..end]);
-        first = end;
+    match groups {
+        [] => settle(true, figures, cells),
+        [group, groups_behind @ ..] => {
+            let (here, behind) = split(figures, group.count);
+            let (cells_here, cells_behind) = cells.split_at_mut(here.len());
+            settle(is_silent(*group, here), here, cells_here);
+            lay(groups_behind, behind, cells_behind);
+        }
     }
 }

@@ -7,5 +7,6 @@ pub mod figure;
 pub mod lay;
 pub mod row;
 pub mod section;
+mod split;
 pub mod tables;
 pub mod write;

@@ -1,17 +1,17 @@
 // The text of a section, written into a draft.
-ghost use Rattle.std.specs.Prelude.{◌≡◌, ◌≤◌, ◌++◌, length, take, drop};
+ghost use Rattle.std.specs.Prelude.{◌≡◌, ◌≤◌, ◌++◌, length};
+ghost use Rattle.std.specs.List.{list_all};
 ghost use Rattle.text.specs.Drafts.{kept, text_of};
-ghost use Rattle.layout.specs.Lawful.{every, is_left_out};
+ghost use Rattle.layout.specs.Lawful.{is_left_out};
 ghost use Rattle.layout.specs.Texts.{field_text, fields_text, group_text, groups_text, section_text, most_bytes};
 
 use crate::field::Field;
 use crate::row::{Group, Row};
 use crate::section::Section;
+use crate::split::split;
 use text::draft::Draft;
 
 const SPACE: u8 = b' ';
-
-const NOTHING: &[u8] = b"";
 
 fn put_field(draft: &mut Draft, row: Row, cell: Field<u32>)
     ensures { text_of draft.new ≡ kept (text_of draft.old ++ field_text row cell) }
@@ -19,60 +19,30 @@ fn put_field(draft: &mut Draft, row: Row, cell: Field<u32>)
     match cell {
         Field::Shown(number) => draft.put_digits(row.width, number),
         Field::Barred => draft.put_bars(row.width),
-        Field::LeftOut => draft.push_all(NOTHING),
+        Field::LeftOut => {}
     }
 }
 
 fn put_fields(draft: &mut Draft, rows: &[Row], cells: &[Field<u32>])
     ensures { text_of draft.new ≡ kept (text_of draft.old ++ fields_text rows.now cells.now) }
 {
-    for i in 0..rows.len().min(cells.len()) {
-        put_field(draft, rows[i], cells[i]);
-    }
-}
-
-fn is_left_out(cell: Field<u32>) -> bool
-    ensures { result ≡ is_left_out cell }
-{
-    match cell {
-        Field::LeftOut => true,
-        Field::Shown(_) | Field::Barred => false,
+    for (row, cell) in rows.iter().zip(cells) {
+        put_field(draft, *row, *cell);
     }
 }
 
 // Whether every field is left out.
 pub fn are_left_out(cells: &[Field<u32>]) -> bool
-    ensures { result ≡ every is_left_out cells.now }
+    ensures { result ≡ list_all is_left_out cells.now }
 {
-    for i in 0..cells.len() {
-        if !is_left_out(cells[i]) {
-            return false;
-        }
-    }
-    true
-}
-
-// The first of some items, as many as there are up to a count.
-fn front<T>(items: &[T], count: usize) -> &[T]
-    ensures { result.now ≡ take count items.now }
-{
-    let end = count.min(items.len());
-    &items[0..end]
-}
-
-// The items behind the first, as many as there are.
-fn behind<T>(items: &[T], count: usize) -> &[T]
-    ensures { result.now ≡ drop count items.now }
-{
-    let start = count.min(items.len());
-    &items[start..items.len()]
+    cells.iter().all(|cell| matches!(cell, Field::LeftOut))
 }
 
 fn put_group(draft: &mut Draft, group: Group, rows: &[Row], cells: &[Field<u32>])
     ensures { text_of draft.new ≡ kept (text_of draft.old ++ group_text group rows.now cells.now) }
 {
     if are_left_out(cells) {
-        return draft.push_all(NOTHING);
+        return;
     }
     draft.push(SPACE);
     draft.put_digits(1, u32::from(group.digit));
@@ -84,17 +54,12 @@ fn put_groups(draft: &mut Draft, groups: &[Group], rows: &[Row], cells: &[Field<
 {
     let mut rows_left = rows;
     let mut cells_left = cells;
-    for i in 0..groups.len() {
-        let group = groups[i];
-        let count = group.count;
-        put_group(
-            draft,
-            group,
-            front(rows_left, count),
-            front(cells_left, count),
-        );
-        rows_left = behind(rows_left, count);
-        cells_left = behind(cells_left, count);
+    for group in groups {
+        let (rows_here, rows_behind) = split(rows_left, group.count);
+        let (cells_here, cells_behind) = split(cells_left, group.count);
+        put_group(draft, *group, rows_here, cells_here);
+        rows_left = rows_behind;
+        cells_left = cells_behind;
     }
 }
 
@@ -104,7 +69,7 @@ pub fn put_section(draft: &mut Draft, section: Section, cells: &[Field<u32>])
     ensures room { length (section_text section cells.now) ≤ most_bytes section }
 {
     if are_left_out(cells) {
-        return draft.push_all(NOTHING);
+        return;
     }
     draft.push(SPACE);
     draft.push_all(section.number());

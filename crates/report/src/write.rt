@@ -19,7 +19,7 @@ impl Report {
     pub fn is_nil(&self) -> bool
         ensures { result ≡ is_nil self.now.first }
     {
-        are_left_out(&self.first[0..MEAN_FIELDS])
+        are_left_out(&self.first[..MEAN_FIELDS])
     }
 
     // The report's text.

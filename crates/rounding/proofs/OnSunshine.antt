@@ -7,7 +7,6 @@ use Rattle.rounding.specs.Sunshine.{one_hour, whole_hours, Hours, HoursLaw, no_n
 use Rattle.rounding.proofs.OnHalves.{half_up_nearest, not_both}
 
 hours : (tenths : ℕ) → Hours tenths (whole_hours tenths)
-unfolding whole_hours
 hours tenths =
     let near = half_up_nearest tenths one_hour (omega arith) in
     record { low = omega arith; high = omega arith }

@@ -7,7 +7,7 @@ abbrev pub one_hour : ℕ
 one_hour = 10
 
 -- an amount of sunshine in whole hours
-unfoldable pub whole_hours : ℕ → ℕ
+abbrev pub whole_hours : ℕ → ℕ
 whole_hours tenths = half_up tenths one_hour
 
 -- h is the whole number of hours nearest to the amount, halves up

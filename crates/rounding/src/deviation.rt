@@ -1,6 +1,6 @@
 // The standard deviation of a month's temperatures.
 ghost use Rattle.std.specs.Prelude.{◌≡◌, ◌^◌, ◌<◌, ◌≤◌};
-ghost use Rattle.rounding.specs.Deviations.{Deviates, deviation_divisor, deviation_of, Deviated, SumsGrow};
+ghost use Rattle.rounding.specs.Deviations.{Deviates, deviation_of, Deviated, SumsGrow};
 
 const LEAST_DAYS: u64 = 1;
 
@@ -17,23 +17,13 @@ pub fn deviation(count: u32, sum: i32, squares: u64) -> Option<u16>
     ensures law { Deviated count sum squares result }
     ensures sums { SumsGrow }
 {
-    let n = count as u64;
-    let size = sum.unsigned_abs() as u64;
+    let n = u64::from(count);
+    let size = u64::from(sum.unsigned_abs());
     if n < LEAST_DAYS || n > MOST_DAYS || size > FARTHEST * n || squares > FARTHEST * FARTHEST * n {
         return None;
     }
-    if size * size > n * squares {
-        return None;
-    }
-    Some(nearest_root(n * squares - size * size, divisor(n)) as u16)
-}
-
-// What the scatter of n values is divided by under the root.
-fn divisor(n: u64) -> u64
-    requires { n ≤ 31 }
-    ensures { result ≡ deviation_divisor n }
-{
-    n * n
+    let scatter = (n * squares).checked_sub(size * size)?;
+    Some(nearest_root(scatter, n * n) as u16)
 }
 
 // The whole number nearest to the root of scatter / divisor, halves up.

@@ -12,10 +12,7 @@ pub fn nearest(sum: i32, count: u32) -> Option<i32>
     if count == 0 {
         return None;
     }
-    let size = half_up(sum.unsigned_abs() as u64, count as u64) as i64;
-    if sum < 0 {
-        Some(-size as i32)
-    } else {
-        Some(size as i32)
-    }
+    let size = half_up(u64::from(sum.unsigned_abs()), u64::from(count)) as i64;
+    let mean = if sum < 0 { -size } else { size };
+    Some(mean as i32)
 }

@@ -26,11 +26,11 @@ pub fn rain_code(tenths: u32) -> u16
     if tenths >= FIRST_OF_MOST {
         return MOST_CODED;
     }
-    half_up(tenths as u64, ONE_MILLIMETRE as u64) as u16
+    half_up(u64::from(tenths), u64::from(ONE_MILLIMETRE)) as u16
 }
 
 fn is_below_one_millimetre(tenths: u32) -> bool
     ensures { result ≡ is_below_one_millimetre tenths }
 {
-    0 < tenths && tenths < ONE_MILLIMETRE
+    (1..ONE_MILLIMETRE).contains(&tenths)
 }

@@ -22,7 +22,7 @@ pub fn whole_hours(tenths: u32) -> u32
     ensures value { result ≡ whole_hours tenths }
     ensures law { HoursLaw tenths result }
 {
-    half_up(tenths as u64, ONE_HOUR) as u32
+    half_up(u64::from(tenths), ONE_HOUR) as u32
 }
 
 // The sunshine in tenths as a percentage of the normal in hours, halves up, from the total before it is rounded.
@@ -36,6 +36,6 @@ pub fn percentage(tenths: u32, normal: u32) -> u16
     if tenths == 0 {
         return 0;
     }
-    let near = half_up(HUNDREDTHS_IN_TENTH * tenths as u64, normal as u64);
-    near.min(MOST_PERCENTAGE).max(LEAST_PERCENTAGE) as u16
+    let near = half_up(HUNDREDTHS_IN_TENTH * u64::from(tenths), u64::from(normal));
+    near.clamp(LEAST_PERCENTAGE, MOST_PERCENTAGE) as u16
 }

@@ -1,2 +1,2 @@
-pub mod OnThird
 pub mod OnFits
+pub mod OnThird

@@ -17,8 +17,8 @@ use Rattle.layout.specs.declared.row.Row.{Row}
 use Rattle.layout.specs.declared.section.Section.TheVariants.{Third}
 use Rattle.layout.specs.Tables.{group, row, groups_of, rows_of}
 use Rattle.layout.specs.Lawful.{all_good}
-use Rattle.layout.specs.Laid.{each, settled, group_fits, figures_fit}
-use Rattle.section_figures.specs.Third.{days_at_each, third_figures}
+use Rattle.layout.specs.Laid.{group_fits, figures_fit}
+use Rattle.section_figures.specs.Third.{third_figures}
 
 -- a count of days, with its tie to the fields before it
 abbrev days_row : Tie → Row
@@ -41,13 +41,13 @@ module _ (d digit x y : ℕ) (short : d ≤ 31) (p : x ≤ d) (q : y ≤ d) wher
 
   -- two counts of one element
   pub pair_fits : (b : Bool) → group_fits d (group digit 2 false true) (days_row Free ∷ days_row Together ∷ []) (count_if b x ∷ count_if b y ∷ []) ≡ true
-  unfolding each settled all_good
+  unfolding all_good
   pair_fits false = refl
   pair_fits true = rw (x_digits, y_digits, le-leb x d p, le-leb y d q) (either (eqb x 0 && (eqb y 0 && true)))
 
   -- counts of two elements
   pub two_fit : (a b : Bool) → group_fits d (group digit 2 false true) (days_row Free ∷ days_row Free ∷ []) (count_if a x ∷ count_if b y ∷ []) ≡ true
-  unfolding each settled all_good
+  unfolding all_good
   two_fit false false = refl
   two_fit false true = rw (y_digits, le-leb y d q)
   two_fit true false = rw (x_digits, le-leb x d p, and_right (eqb x 0) false refl)
@@ -56,7 +56,7 @@ module _ (d digit x y : ℕ) (short : d ≤ 31) (p : x ≤ d) (q : y ≤ d) wher
   -- three counts of one element
   pub three_fit : (z : ℕ) → z ≤ d → (b : Bool) →
       group_fits d (group digit 3 false true) (days_row Free ∷ days_row Together ∷ days_row Together ∷ []) (count_if b x ∷ count_if b y ∷ count_if b z ∷ []) ≡ true
-  unfolding each settled all_good
+  unfolding all_good
   three_fit z r false = refl
   three_fit z r true =
       let z-digits : ltb z 100 ≡ true = lt-ltb z 100 (omega arith) in
@@ -75,7 +75,7 @@ module _ (g : Grid) (d : ℕ) where
   m x k b = days_most (meets (limit x k b)) (column g x) d
 
   pub third_fits : d ≤ 31 → figures_fit d (groups_of Third) (rows_of Third) (third_figures g d) ≡ true
-  unfolding figures_fit days_at_each count_shown n
+  unfolding figures_fit count_shown n
   third_fits short =
       (next (pair_fits d 0 (n HighestTemperature AtLeast 250) (n HighestTemperature AtLeast 300) short (m HighestTemperature AtLeast 250) (m HighestTemperature AtLeast 300) (is_complete (column g HighestTemperature) d))
       (next (pair_fits d 1 (n HighestTemperature AtLeast 350) (n HighestTemperature AtLeast 400) short (m HighestTemperature AtLeast 350) (m HighestTemperature AtLeast 400) (is_complete (column g HighestTemperature) d))

@@ -1,21 +1,16 @@
 -- The figures of the third section, limit by limit. Assumes nothing.
-use Rattle.std.proofs.Common.{◌≡◌, ℕ, ◌+◌, ◌<◌, ◌≤◌, List, [], ◌∷◌, ◌++◌, length, get_or, take, drop, set, Option, sym, ap, ◌∙◌, append_assoc, append-nil}
-use Rattle.std.proofs.lemmas.List.{drop_more, drop_all, take_more_set, take_all}
-use Rattle.daybook.specs.Grid.{Grid}
-use Rattle.columns.specs.declared.limit.Limit.{Limit}
-use Rattle.section_figures.specs.Third.{days_at, days_at_each}
+use Rattle.std.proofs.Common.{◌≡◌, ℕ, zero, suc, ◌+◌, List, ◌∷◌, length, map, get_or, drop, sym, ap, ap₂, ◌∙◌, subst, arith}
+use Rattle.std.proofs.lemmas.List.{drop_more, drop_all}
+use Rattle.std.specs.Array.{MapsFrom}
+use Rattle.std.specs.Fn.{Called}
+use denote.Param.Members.{Mut}
 
-module _ (g : Grid) (d : ℕ) (limits : List Limit) (figures : List (Option ℕ)) (i : ℕ) where
-  pub limit_more : (l : Limit) (x : Option ℕ) → i < length limits → i < length figures → x ≡ days_at g d (get_or limits i l) →
-      days_at_each g d limits ≡ take i figures ++ days_at_each g d (drop i limits) →
-      days_at_each g d limits ≡ take (i + 1) (set figures i x) ++ days_at_each g d (drop (i + 1) limits)
-  unfolding days_at_each
-  limit_more l x p q e h =
-      rw (drop_more limits i l p) at h
-      ∙ sym (append_assoc (take i figures) (days_at g d (get_or limits i l) ∷ []) (days_at_each g d (drop (i + 1) limits)))
-      ∙ ap (λ z. (take i figures ++ (z ∷ [])) ++ days_at_each g d (drop (i + 1) limits)) (sym e)
-      ∙ ap (λ z. z ++ days_at_each g d (drop (i + 1) limits)) (sym (take_more_set figures i x q))
-
-  pub limits_all : length limits ≤ i → length figures ≤ i → days_at_each g d limits ≡ take i figures ++ days_at_each g d (drop i limits) → figures ≡ days_at_each g d limits
-  unfolding days_at_each
-  limits_all p q h = sym (rw (drop_all i limits p) at h ∙ append-nil (take i figures) ∙ take_all i figures q)
+-- what calls of a closure give that each give h of an element and leave the closure as it was
+pub mapped : {F A B : Type 0} (g : Mut F (A × Unit {0}) B) (h : A → B) (f : F) (xs : List A) (ys : List B) (i n : ℕ) →
+    ((x : A) (y : B) (q : F) → Called g f (x, tt) y q → (q ≡ f) × (y ≡ h x)) → length xs ≡ i + n → length ys ≡ i + n → MapsFrom g f xs ys i n → drop i ys ≡ map h (drop i xs)
+mapped g h f xs ys i zero gives long_xs long_ys calls = drop_all i ys (omega arith) ∙ ap (map h) (sym (drop_all i xs (omega arith)))
+mapped g h f xs ys i (suc n) gives long_xs long_ys (q, x, y, x_at, y_at, call, others) =
+    let given = gives x y q call in
+    let rest = mapped g h f xs ys (i + 1) n gives (omega arith) (omega arith) (subst (λ p. MapsFrom g p xs ys (i + 1) n) given.0 others) in
+    let first : get_or ys i y ≡ h (get_or xs i x) = y_at.0 ∙ given.1 ∙ ap h (sym x_at.0) in
+    drop_more ys i y (omega arith) ∙ ap₂ ◌∷◌ first rest ∙ ap (map h) (sym (drop_more xs i x (omega arith)))

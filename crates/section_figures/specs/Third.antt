@@ -1,5 +1,5 @@
 -- The figures of the third section: days against limits.
-use Rattle.std.specs.Prelude.{ℕ, List, [], ◌∷◌, Option}
+use Rattle.std.specs.Prelude.{ℕ, List, map, Option}
 use Rattle.daybook.specs.Grid.{Grid}
 use Rattle.columns.specs.declared.limit.Limit.{Limit}
 use Rattle.columns.specs.Columns.{column}
@@ -10,11 +10,6 @@ use Rattle.figures.specs.Days.{count_shown}
 abbrev pub days_at : Grid → ℕ → Limit → Option ℕ
 days_at g d l = count_shown (meets l) (column g l.element) d
 
--- those of each of some limits
-unfoldable pub days_at_each : Grid → ℕ → List Limit → List (Option ℕ)
-days_at_each g d [] = []
-days_at_each g d (l ∷ rest) = days_at g d l ∷ days_at_each g d rest
-
 -- those of each limit of a report
 abbrev pub third_figures : Grid → ℕ → List (Option ℕ)
-third_figures g d = days_at_each g d limits
+third_figures g d = map (days_at g d) limits

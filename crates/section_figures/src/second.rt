@@ -1,50 +1,30 @@
 // The figures of the second section: the normals.
-ghost use Rattle.std.specs.Prelude.{◌≡◌, unsigned_abs};
+ghost use Rattle.std.specs.Prelude.{◌≡◌};
 ghost use Rattle.layout.specs.Figures.{signed};
-ghost use Rattle.section_figures.specs.Second.{if_given, pressure_number, rain_number, second_figures};
+ghost use Rattle.section_figures.specs.Second.{pressure_number, rain_number, second_figures};
 
 use layout::coding::Figure;
 use layout::figure::{Pressure, Temperature};
 use normals::checked::CheckedNormals;
 use rounding::rain::rain_code;
 
-fn plain(number: Option<i32>) -> Option<u32>
-    ensures { result ≡ if_given unsigned_abs number }
+fn temperature(tenths: i32) -> u32
+    ensures { result ≡ signed tenths }
 {
-    match number {
-        Some(number) => Some(number.unsigned_abs()),
-        None => None,
-    }
+    Temperature { tenths }.code()
 }
 
-fn temperature(number: Option<i32>) -> Option<u32>
-    ensures { result ≡ if_given signed number }
+fn pressure(tenths: i32) -> u32
+    ensures { result ≡ pressure_number tenths }
 {
-    match number {
-        Some(tenths) => Some(Temperature { tenths }.code()),
-        None => None,
-    }
+    let tenths = tenths.unsigned_abs();
+    Pressure { tenths }.code()
 }
 
-fn pressure(number: Option<i32>) -> Option<u32>
-    ensures { result ≡ if_given pressure_number number }
+fn rain(tenths: i32) -> u32
+    ensures { result ≡ rain_number tenths }
 {
-    match number {
-        Some(number) => Some(Pressure {
-            tenths: number.unsigned_abs(),
-        }
-        .code()),
-        None => None,
-    }
-}
-
-fn rain(number: Option<i32>) -> Option<u32>
-    ensures { result ≡ if_given rain_number number }
-{
-    match number {
-        Some(tenths) => Some(u32::from(rain_code(tenths.unsigned_abs()))),
-        None => None,
-    }
+    u32::from(rain_code(tenths.unsigned_abs()))
 }
 
 pub fn second_figures(checked: CheckedNormals) -> [Option<u32>; 18]
@@ -55,16 +35,16 @@ pub fn second_figures(checked: CheckedNormals) -> [Option<u32>; 18]
     [
         Some(normals.first_year.unsigned_abs()),
         Some(normals.last_year.unsigned_abs()),
-        pressure(normals.station_pressure),
-        pressure(normals.sea_level_pressure),
-        temperature(normals.mean_temperature),
-        plain(normals.deviation),
-        temperature(normals.highest_temperature),
-        temperature(normals.lowest_temperature),
-        plain(normals.vapour_pressure),
-        rain(normals.rain),
-        plain(normals.rain_days),
-        plain(normals.sunshine),
+        normals.station_pressure.map(pressure),
+        normals.sea_level_pressure.map(pressure),
+        normals.mean_temperature.map(temperature),
+        normals.deviation.map(i32::unsigned_abs),
+        normals.highest_temperature.map(temperature),
+        normals.lowest_temperature.map(temperature),
+        normals.vapour_pressure.map(i32::unsigned_abs),
+        normals.rain.map(rain),
+        normals.rain_days.map(i32::unsigned_abs),
+        normals.sunshine.map(i32::unsigned_abs),
         Some(missing.pressure.unsigned_abs()),
         Some(missing.temperature.unsigned_abs()),
         Some(missing.extremes.unsigned_abs()),

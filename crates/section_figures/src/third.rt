@@ -17,10 +17,7 @@ fn days_at<S: DaySource>(source: &S, limit: Limit, month: CalendarMonth) -> Opti
     ensures value { result ≡ days_at (S.grid source.now) (days_of month) limit }
     ensures same { source.exit.now ≡ source.entry.now }
 {
-    match days_at_limit(source, limit, month) {
-        Some(days) => Some(u32::from(days)),
-        None => None,
-    }
+    days_at_limit(source, limit, month).map(u32::from)
 }
 
 pub fn third_figures<S: DaySource>(source: &S, month: CalendarMonth) -> [Option<u32>; 22]
@@ -28,10 +25,5 @@ pub fn third_figures<S: DaySource>(source: &S, month: CalendarMonth) -> [Option<
     ensures fits { figures_fit (days_of month) (groups_of Third) (rows_of Third) (third_figures (S.grid source.now) (days_of month)) ≡ true }
     ensures same { source.exit.now ≡ source.entry.now }
 {
-    let limits = report_limits();
-    let mut figures = [None; 22];
-    for i in 0..figures.len() {
-        figures[i] = days_at(source, limits[i], month);
-    }
-    figures
+    report_limits().map(|limit| days_at(source, limit, month))
 }

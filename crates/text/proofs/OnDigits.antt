@@ -1,11 +1,12 @@
 -- Digits and the number that they write. Assumes nothing.
-use Rattle.std.proofs.Common.{◌≡◌, ℕ, zero, suc, ◌+◌, ◌-◌, ◌*◌, ◌/◌, ◌%◌, ◌^◌, ◌<◌, ◌≤◌, true, false, eqb, List, [], ◌∷◌, length, get_or, Some, None, Option, sym, refl, ap, ◌∙◌, ⊎_elim, mod-lt, mod-eq_of_lt, pow-suc, add-one, arith, lit<}
+use Rattle.std.proofs.Common.{◌≡◌, ℕ, zero, suc, ◌+◌, ◌-◌, ◌*◌, ◌/◌, ◌%◌, ◌^◌, ◌<◌, ◌≤◌, true, false, eqb, List, [], ◌∷◌, length, Some, None, Option, sym, refl, ap, ◌∙◌, ⊎_elim, mod-lt, mod-eq_of_lt, pow-suc, add-one, arith, lit<}
 use native.Mathlib.Nat.{pow-succ', div-div-eq-div-mul}
 use lib.Arith.{digits_div, digits_mod, digits_lt, mod-mul}
 use Rattle.std.proofs.lemmas.List.{length-replicate}
 use Rattle.std.proofs.lemmas.Bool.{both_ways, cases_Bool, and_parts, and_from, and_left, and_right, cond-true, cond-false, eqb-true, ne_eqb, le-leb}
 use Rattle.std.proofs.lemmas.Bool.Decides.{nat_tests}
-use Rattle.text.specs.Digits.{nought, nine, bar, digit_at, digits, is_digit, all_digits, value_of, most_digits, is_number, number_of, bars, no_other, all_bars}
+use Rattle.std.specs.List.{list_all}
+use Rattle.text.specs.Digits.{nought, nine, bar, digit_at, digits, is_digit, all_digits, value_of, most_digits, is_number, number_of, bars, all_bars}
 use Rattle.text.specs.Undo.{DigitsUndo, BarsUndo}
 
 ten_positive : (w : ℕ) → 0 < 10 ^ w
@@ -25,16 +26,9 @@ digit_at_digit : (n place : ℕ) → is_digit (digit_at n place) ≡ true
 digit_at_digit n place = let low = mod-lt (n / 10 ^ place) {m = 10} (lit< tt) in grind (arith, nat_tests)
 
 pub digits_all : (w n : ℕ) → all_digits (digits w n) ≡ true
-unfolding digits all_digits
+unfolding digits
 digits_all zero n = refl
 digits_all (suc w) n = and_from _ _ (digit_at_digit n w) (digits_all w n)
-
--- the digit that stands i digits from the first
-pub digit_here : (w n i : ℕ) → i < w → get_or (digits w n) i 0 ≡ digit_at n (w - 1 - i)
-unfolding digits
-digit_here zero n i h = absurd (omega arith)
-digit_here (suc w) n zero h = ap (digit_at n) (omega arith)
-digit_here (suc w) n (suc i) h = digit_here w n i (omega arith) ∙ ap (digit_at n) (omega arith)
 
 -- one place further to the front
 pub front_more : (n front place : ℕ) → front ≡ n / 10 ^ place → front / 10 ≡ n / 10 ^ (place + 1)
@@ -43,7 +37,7 @@ front_more n front place e =
 
 -- ---- the number that digits write
 pub value_below : (bs : List ℕ) → all_digits bs ≡ true → value_of bs < 10 ^ length bs
-unfolding all_digits value_of
+unfolding value_of
 value_below [] h = omega arith
 value_below (b ∷ bs) h =
     let parts = and_parts (is_digit b) (all_digits bs) h in
@@ -63,7 +57,7 @@ value_digits (suc w) n =
 
 -- digits are those of their value, whatever stands before them
 digits_value : (k : ℕ) (bs : List ℕ) → all_digits bs ≡ true → digits (length bs) (k * 10 ^ length bs + value_of bs) ≡ bs
-unfolding digits all_digits value_of
+unfolding digits value_of
 digits_value k [] h = refl
 digits_value k (b ∷ bs) h =
     let parts = and_parts (is_digit b) (all_digits bs) h in
@@ -119,38 +113,32 @@ below : (bs : List ℕ) (n : ℕ) → number_of bs ≡ Some n → n < 10 ^ lengt
 below bs n e = let number = number_tells bs n e in let most = value_below bs number.all in omega arith
 
 -- ---- bars
-no_other_bars : (w : ℕ) → no_other (bars w) ≡ true
-unfolding no_other
+no_other_bars : (w : ℕ) → list_all (λ b. eqb b bar) (bars w) ≡ true
 no_other_bars zero = refl
 no_other_bars (suc w) = no_other_bars w
 
 bars_there : (w : ℕ) → 0 < w → all_bars (bars w) ≡ true
-unfolding all_bars
 bars_there w some = and_from _ _ (le-leb 1 (length (bars w)) (rw (length-replicate w bar) (omega arith))) (no_other_bars w)
 
-bars_are : (bs : List ℕ) → no_other bs ≡ true → bars (length bs) ≡ bs
-unfolding no_other
+bars_are : (bs : List ℕ) → list_all (λ b. eqb b bar) bs ≡ true → bars (length bs) ≡ bs
 bars_are [] h = refl
 bars_are (b ∷ bs) h =
-    let parts = and_parts (eqb b bar) (no_other bs) h in
+    let parts = and_parts (eqb b bar) (list_all (λ x. eqb x bar) bs) h in
     let first = sym (eqb-true b bar parts.0) in
     let rest = bars_are bs parts.1 in
     λ i. first i ∷ rest i
 
 bars_back : (bs : List ℕ) → all_bars bs ≡ true → bars (length bs) ≡ bs
-unfolding all_bars
-bars_back bs h = bars_are bs (and_parts _ (no_other bs) h).1
+bars_back bs h = bars_are bs (and_parts _ (list_all (λ b. eqb b bar) bs) h).1
 
 -- the first of some digits is no bar
-other_first : (bs : List ℕ) → 1 ≤ length bs → all_digits bs ≡ true → no_other bs ≡ false
-unfolding no_other all_digits
+other_first : (bs : List ℕ) → 1 ≤ length bs → all_digits bs ≡ true → list_all (λ b. eqb b bar) bs ≡ false
 other_first [] some all = absurd (omega arith)
 other_first (b ∷ bs) some all =
     let low = (digit_bounds b (and_parts (is_digit b) (all_digits bs) all).0).0 in
     and_left _ _ (ne_eqb b bar (λ same. omega arith))
 
 barless : (bs : List ℕ) (n : ℕ) → number_of bs ≡ Some n → all_bars bs ≡ false
-unfolding all_bars
 barless bs n e = let number = number_tells bs n e in and_right _ _ (other_first bs number.some number.all)
 
 apart : (bs : List ℕ) → all_bars bs ≡ true → number_of bs ≡ None

@@ -1,6 +1,6 @@
 -- What a draft holds after one call and after several. Assumes nothing.
-use Rattle.std.proofs.Common.{◌≡◌, ℕ, zero, suc, ◌≤◌, List, [], ◌∷◌, ◌++◌, length, take, sym, refl, ap, ◌∙◌, append_assoc, append-nil, arith}
-use Rattle.std.proofs.lemmas.List.{length-take, take_all}
+use Rattle.std.proofs.Common.{◌≡◌, ℕ, zero, suc, ◌≤◌, List, [], ◌∷◌, ◌++◌, length, take, sym, refl, ap, ◌∙◌, append_assoc, append-nil}
+use Rattle.std.proofs.lemmas.List.{take_all}
 use Rattle.text.specs.declared.draft.Draft.{Draft}
 use Rattle.text.specs.Drafts.{capacity, kept, text_of, WritingLaw}
 
@@ -31,8 +31,7 @@ kept_from_empty written empty e fits = e ∙ ap (λ a. kept (a ++ written)) empt
 
 -- ---- drafts
 pub text_within : (d : Draft) → length (text_of d) ≤ capacity
-unfolding text_of
-text_within d = let fits = d.within in rw (length-take d.len d.bytes) (omega arith)
+text_within d = d.within
 
 pub text_kept : (d : Draft) → kept (text_of d) ≡ text_of d
 text_kept d = kept_whole (text_of d) (text_within d)

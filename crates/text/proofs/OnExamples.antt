@@ -1,10 +1,10 @@
 -- The worked examples, computed. Assumes nothing.
 use Rattle.std.proofs.Common.{refl}
-use Rattle.text.specs.Digits.{digits, all_digits, value_of, number_of, no_other, all_bars}
+use Rattle.text.specs.Digits.{digits, value_of, number_of}
 use Rattle.text.specs.Examples.{Examples}
 
 pub examples : Examples
-unfolding digits all_digits value_of number_of no_other all_bars
+unfolding digits value_of number_of
 examples = record {
   filled = refl;
   shortened = refl;

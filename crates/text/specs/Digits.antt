@@ -1,5 +1,6 @@
 -- Decimal digits and bars, as bytes.
-use Rattle.std.specs.Prelude.{ℕ, zero, suc, ◌+◌, ◌-◌, ◌*◌, ◌/◌, ◌%◌, ◌^◌, Bool, true, cond, ◌&&◌, List, [], ◌∷◌, length, replicate, Some, None, Option, ◌==◌, nat_le}
+use Rattle.std.specs.Prelude.{ℕ, zero, suc, ◌+◌, ◌-◌, ◌*◌, ◌/◌, ◌%◌, ◌^◌, Bool, cond, ◌&&◌, List, [], ◌∷◌, length, replicate, Some, None, Option, ◌==◌, nat_le}
+use Rattle.std.specs.List.{list_all}
 
 -- the byte of the digit 0, behind which the other digits follow
 abbrev pub nought : ℕ
@@ -27,9 +28,8 @@ abbrev pub is_digit : ℕ → Bool
 is_digit b = nat_le nought b && nat_le b nine
 
 -- nothing but digits
-unfoldable pub all_digits : List ℕ → Bool
-all_digits [] = true
-all_digits (b ∷ bs) = is_digit b && all_digits bs
+abbrev pub all_digits : List ℕ → Bool
+all_digits bs = list_all is_digit bs
 
 -- the number that digits write: each counts at its place
 unfoldable pub value_of : List ℕ → ℕ
@@ -52,11 +52,6 @@ number_of bs = cond (is_number bs) (Some (value_of bs)) None
 abbrev pub bars : ℕ → List ℕ
 bars width = replicate width bar
 
--- nothing but bars
-unfoldable pub no_other : List ℕ → Bool
-no_other [] = true
-no_other (b ∷ bs) = b == bar && no_other bs
-
 -- bars, one at least
-unfoldable pub all_bars : List ℕ → Bool
-all_bars bs = nat_le 1 (length bs) && no_other bs
+abbrev pub all_bars : List ℕ → Bool
+all_bars bs = nat_le 1 (length bs) && list_all (λ b. b == bar) bs

@@ -11,8 +11,8 @@ unfoldable pub kept : List ℕ → List ℕ
 kept bs = take capacity bs
 
 -- the bytes written into a draft
-unfoldable pub text_of : Draft → List ℕ
-text_of d = take d.len d.bytes
+abbrev pub text_of : Draft → List ℕ
+text_of d = d.bytes.items
 
 -- what calls one after another write
 pub record WritingLaw : Type 0 where

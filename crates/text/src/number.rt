@@ -4,10 +4,7 @@ ghost use Rattle.text.specs.Digits.{number_of, all_bars};
 ghost use Rattle.text.specs.Examples.{Examples};
 ghost use Rattle.text.specs.Undo.{DigitsUndo, BarsUndo};
 
-use crate::symbol::{BAR, BASE, NOUGHT, is_digit};
-
-// No field is empty.
-const LEAST_WIDTH: usize = 1;
+use crate::symbol::{BAR, BASE, digit};
 
 // Every number of so many digits fits 32 bits.
 const MOST_DIGITS: usize = 9;
@@ -18,15 +15,12 @@ pub fn number(bytes: &[u8]) -> Option<u32>
     ensures law { DigitsUndo }
     ensures examples { Examples }
 {
-    if bytes.len() < LEAST_WIDTH || bytes.len() > MOST_DIGITS {
+    if bytes.is_empty() || bytes.len() > MOST_DIGITS {
         return None;
     }
-    let mut value: u32 = 0;
+    let mut value = 0;
     for byte in bytes {
-        if !is_digit(*byte) {
-            return None;
-        }
-        value = value * BASE + (*byte - NOUGHT) as u32;
+        value = value * BASE + digit(*byte)?;
     }
     Some(value)
 }
@@ -36,13 +30,5 @@ pub fn is_bars(bytes: &[u8]) -> bool
     ensures value { result ≡ all_bars bytes.now }
     ensures law { BarsUndo }
 {
-    if bytes.len() < LEAST_WIDTH {
-        return false;
-    }
-    for byte in bytes {
-        if *byte != BAR {
-            return false;
-        }
-    }
-    true
+    !bytes.is_empty() && bytes.iter().all(|byte| *byte == BAR)
 }

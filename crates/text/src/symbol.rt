@@ -1,12 +1,10 @@
 // The symbols of a field: decimal digits and bars.
-ghost use Rattle.std.specs.Prelude.{◌≡◌};
-ghost use Rattle.text.specs.Digits.{digit_at, is_digit};
+ghost use Rattle.std.specs.Prelude.{◌≡◌, ◌-◌, Some, None, if◌then◌else◌};
+ghost use Rattle.text.specs.Digits.{nought, digit_at, is_digit};
 
 pub(crate) const BASE: u32 = 10;
 
-pub(crate) const NOUGHT: u8 = b'0';
-
-const NINE: u8 = b'9';
+const NOUGHT: u8 = b'0';
 
 pub(crate) const BAR: u8 = b'/';
 
@@ -22,8 +20,9 @@ pub(crate) fn digit_at(number: u32, place: u8) -> u8
     NOUGHT + (front % BASE) as u8
 }
 
-pub(crate) fn is_digit(byte: u8) -> bool
-    ensures { result ≡ is_digit byte }
+// What a digit counts.
+pub(crate) fn digit(byte: u8) -> Option<u32>
+    ensures { result ≡ (if is_digit byte then Some (byte - nought) else None) }
 {
-    NOUGHT <= byte && byte <= NINE
+    byte.is_ascii_digit().then(|| u32::from(byte - NOUGHT))
 }

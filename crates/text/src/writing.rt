@@ -3,8 +3,9 @@ ghost use Rattle.std.specs.Prelude.{◌≡◌, [], ◌∷◌, ◌++◌, length};
 ghost use Rattle.text.specs.Digits.{digits, bars};
 ghost use Rattle.text.specs.Drafts.{kept, text_of, WritingLaw};
 
-use crate::draft::{CAPACITY, Draft};
+use crate::draft::Draft;
 use crate::symbol::{BAR, digit_at};
+use arrayvec::ArrayVec;
 
 impl Draft {
     pub fn new() -> Draft
@@ -12,19 +13,14 @@ impl Draft {
         ensures law { WritingLaw }
     {
         Draft {
-            bytes: [0; CAPACITY],
-            len: 0,
+            bytes: ArrayVec::new(),
         }
     }
 
     pub fn push(&mut self, byte: u8)
         ensures { text_of self.new ≡ kept (text_of self.old ++ byte ∷ []) }
     {
-        let at = self.len;
-        if at < CAPACITY {
-            self.bytes[at] = byte;
-            self.len = at + 1;
-        }
+        let _ = self.bytes.try_push(byte);
     }
 
     pub fn push_all(&mut self, bytes: &[u8])
@@ -39,8 +35,8 @@ impl Draft {
     pub fn put_digits(&mut self, width: u8, number: u32)
         ensures { text_of self.new ≡ kept (text_of self.old ++ digits width number) }
     {
-        for passed in 0..width {
-            self.push(digit_at(number, width - 1 - passed));
+        for place in (0..width).rev() {
+            self.push(digit_at(number, place));
         }
     }
 
@@ -55,12 +51,12 @@ impl Draft {
     pub fn len(&self) -> usize
         ensures { result ≡ length (text_of self.now) }
     {
-        self.as_bytes().len()
+        self.bytes.len()
     }
 
     pub fn as_bytes(&self) -> &[u8]
         ensures { result.now ≡ text_of self.now }
     {
-        &self.bytes[0..self.len]
+        self.bytes.as_slice()
     }
 }

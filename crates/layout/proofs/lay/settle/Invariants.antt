@@ -1,7 +1,7 @@
-use Rattle.std.proofs.Common.{◌≡◌, ◌++◌, take, drop}
+use Rattle.std.proofs.Common.{◌≡◌, take}
 use Rattle.layout.specs.Laid.{settled}
 use Rattle.layout.proofs.lay.settle.Given as goal
 
--- the cells so far and the figures from here on give the whole
+-- the cells so far are the fields of the figures so far
 abbrev pub invariant-loop-i : goal.invariant-loop-i
-invariant-loop-i l = settled l.silent l.figures ≡ take l.i l.cells ++ settled l.silent (drop l.i l.figures)
+invariant-loop-i l = take l.i l.cells ≡ settled l.silent (take l.i l.figures)

@@ -1,4 +1,5 @@
-use Rattle.std.proofs.Common.{◌≡◌, true, false, ◌∙◌, arith}
+use Rattle.std.proofs.Common.{◌≡◌, true, false, ◌∙◌, ap₂, arith}
+use Rattle.rounding.specs.Halves.{half_up}
 use Rattle.rounding.specs.Rain.{is_below_one_millimetre}
 use Rattle.rounding.proofs.OnRain.{little_code, much_code, whole_code, coded_by}
 use Rattle.rounding.proofs.rain.rain_code.Goals as goal
@@ -21,5 +22,5 @@ pub returns : goal.returns
 returns c =
     let tenths = c.args.tenths in
     let enough : is_below_one_millimetre tenths ≡ false = cc in
-    let value = c.half_up.ensures ∙ whole_code tenths enough (omega arith) in
+    let value = c.half_up.ensures ∙ ap₂ half_up c.from.ensures c.from-2.ensures ∙ whole_code tenths enough (omega arith) in
     record { value = value; law = coded_by tenths c.half_up.result value }

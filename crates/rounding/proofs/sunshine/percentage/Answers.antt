@@ -1,5 +1,6 @@
-use Rattle.std.proofs.Common.{◌≡◌, arith}
-use Rattle.rounding.specs.Sunshine.{percentage_of}
+use Rattle.std.proofs.Common.{◌≡◌, ap, ap₂, ◌∙◌, arith}
+use Rattle.rounding.specs.Halves.{half_up}
+use Rattle.rounding.specs.Sunshine.{hundredths, percentage_of}
 use Rattle.rounding.proofs.OnSunshine.{without_normal, percentage_none, percentage_some, percentage_by}
 use Rattle.rounding.proofs.sunshine.percentage.Goals as goal
 
@@ -18,5 +19,6 @@ returns c =
     let tenths = c.args.tenths in
     let normal = c.args.normal in
     let some = percentage_some tenths normal (omega arith) (omega arith) in
-    let value : c.max.result ≡ percentage_of tenths normal = omega arith in
-    record { value = value; law = percentage_by tenths normal c.max.result value }
+    let near = c.half_up-near.ensures ∙ ap₂ half_up (ap hundredths c.from.ensures) c.from-2.ensures in
+    let value : c.clamp.result ≡ percentage_of tenths normal = omega arith in
+    record { value = value; law = percentage_by tenths normal c.clamp.result value }

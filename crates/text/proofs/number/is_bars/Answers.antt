@@ -1,23 +1,15 @@
-use Rattle.std.proofs.Common.{arith}
+use Rattle.std.proofs.Common.{eqb, rules, tests, arith}
+use Rattle.std.proofs.lemmas.Iterator.{YieldsList-from_slice}
+use Rattle.std.proofs.lemmas.Iterator.Search.{all_from_yields_List}
+use Rattle.std.proofs.lemmas.Bool.Decides.{nat_tests}
+use Rattle.text.specs.Digits.{bar}
 use Rattle.text.proofs.OnDigits.{bars_undo}
-use Rattle.text.proofs.OnNumbers.{no_bars, bar_read, bar_missing, all_bars_read}
 use Rattle.text.proofs.number.is_bars.Goals as goal
 
-pub returns-then-bytes-lt-LEAST_WIDTH : goal.returns-then-bytes-lt-LEAST_WIDTH
-returns-then-bytes-lt-LEAST_WIDTH c = record { value = no_bars c.args.bytes.now (omega arith); law = bars_undo }
+pub returns-then-not-is_empty : goal.returns-then-not-is_empty
+returns-then-not-is_empty c =
+    let all = all_from_yields_List (λ b. eqb b bar) _ _ c.all.result c.all.ensures.ran (YieldsList-from_slice c.args.bytes.now cc) (λ x b q k. search (rules, tests)) in
+    record { value = grind (arith, nat_tests); law = bars_undo }
 
-pub returns-then-byte-ne-BAR : goal.returns-then-byte-ne-BAR
-returns-then-byte-ne-BAR c = record {
-  value = bar_missing c.args.bytes.now c.loop-byte.byte-index c.loop-byte-test.true c.loop-byte.invariant c.if-byte-ne-BAR.true;
-  law = bars_undo;
-}
-
-pub loop-byte-preserved : goal.loop-byte-preserved
-loop-byte-preserved c =
-    bar_read c.args.bytes.now c.loop-byte.byte-index c.loop-byte-test.true c.loop-byte.invariant c.if-byte-ne-BAR.false
-
-pub returns : goal.returns
-returns c = record {
-  value = all_bars_read c.args.bytes.now c.loop-byte.byte-index (omega arith) c.loop-byte-test.false c.loop-byte.invariant;
-  law = bars_undo;
-}
+pub returns-else-not-is_empty-clause-law : goal.returns-else-not-is_empty-clause-law
+returns-else-not-is_empty-clause-law c = bars_undo

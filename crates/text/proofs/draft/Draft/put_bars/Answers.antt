@@ -1,6 +1,4 @@
-use Rattle.std.proofs.Common.{◌≡◌, ◌++◌, ap, ◌∙◌, arith}
-use Rattle.text.specs.Digits.{bars}
-use Rattle.text.specs.Drafts.{kept, text_of}
+use Rattle.text.specs.Drafts.{text_of}
 use Rattle.text.proofs.OnDrafts.{none_written}
 use Rattle.text.proofs.OnWriting.{bars_more}
 use Rattle.text.proofs.draft.Draft.put_bars.Goals as goal
@@ -10,8 +8,3 @@ loop-init c = none_written c.args.self.now
 
 pub loop-preserved : goal.loop-preserved
 loop-preserved c = bars_more (text_of c.args.self.now) c.loop.counter c.loop.invariant c.push.ensures
-
-pub returns : goal.returns
-returns c =
-    let end : c.loop.counter ≡ c.args.width = omega arith in
-    c.loop.invariant ∙ ap (λ n. kept (text_of c.args.self.now ++ bars n)) end

@@ -1,8 +1,9 @@
-use Rattle.std.proofs.Common.{◌≡◌, ◌++◌, take}
+use Rattle.std.proofs.Common.{◌≡◌, ◌++◌}
 use Rattle.text.specs.Digits.{digits}
 use Rattle.text.specs.Drafts.{kept, text_of}
 use Rattle.text.proofs.draft.Draft.put_digits.Given as goal
 
--- the digits passed are written
-abbrev pub invariant-loop-passed : goal.invariant-loop-passed
-invariant-loop-passed l = text_of l.self ≡ kept (text_of l.initial.self ++ take l.passed (digits l.width l.number))
+-- with the digits that are left it will be the whole
+abbrev pub invariant-loop-place : goal.invariant-loop-place
+invariant-loop-place l =
+    kept (text_of l.initial.self ++ digits l.width l.number) ≡ kept (text_of l.self ++ digits l.place l.number)

@@ -1,7 +1,0 @@
-use Rattle.std.proofs.Common.{◌≡◌, drop}
-use Rattle.layout.specs.Laid.{each, is_absent}
-use Rattle.layout.proofs.lay.are_absent.Given as goal
-
--- what the figures from here on say is what all say
-abbrev pub invariant-loop-i : goal.invariant-loop-i
-invariant-loop-i l = each is_absent l.figures ≡ each is_absent (drop l.i l.figures)
