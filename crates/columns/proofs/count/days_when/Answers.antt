@@ -1,4 +1,4 @@
-use Rattle.std.proofs.Common.{◌≡◌, ◌+◌, ◌-◌, sym, ap, ◌∙◌, arith, rules}
+use Rattle.std.proofs.Common.{◌≡◌, ◌+◌, ◌-◌, sym, ◌∙◌, arith, rules}
 use Rattle.columns.specs.Columns.{column}
 use Rattle.columns.specs.Counts.{passes_on, days_when}
 use Rattle.columns.proofs.OnColumns.{days_none, days_most, day_counted, day_passed_over, counted}
@@ -17,11 +17,10 @@ loop-day-preserved g c =
     let passes = g.C.Condition.passes c.args.condition in
     let day = c.loop-day.day in
     let met : c.is_some_and.result ≡ passes_on passes c.reading.result = search rules in
-    let seen : c.is_some_and.result ≡ passes_on passes (f day) = met ∙ ap (passes_on passes) c.reading.ensures.value in
     let back : day + 1 - 1 ≡ day = omega arith in
     rw back (elim c.if-is_some_and.branch [
-      | then-is_some_and w ↦ (w.days-is ∙ day_counted passes f day _ (omega arith) c.loop-day.invariant.0 (sym seen ∙ w.if-is_some_and.true), omega arith, omega arith)
-      | else-is_some_and w ↦ (w.days-is ∙ day_passed_over passes f day _ (omega arith) c.loop-day.invariant.0 (sym seen ∙ w.if-is_some_and.false), omega arith, omega arith)
+      | then-is_some_and w ↦ (w.days-is ∙ day_counted passes f day _ (omega arith) c.loop-day.invariant.0 _ c.reading.ensures.value (sym met ∙ w.if-is_some_and.true), omega arith, omega arith)
+      | else-is_some_and w ↦ (w.days-is ∙ day_passed_over passes f day _ (omega arith) c.loop-day.invariant.0 _ c.reading.ensures.value (sym met ∙ w.if-is_some_and.false), omega arith, omega arith)
     ])
 
 pub returns-clause-law : goal.returns-clause-law
@@ -33,10 +32,9 @@ returns-after-is_some_and g c =
     let passes = g.C.Condition.passes c.args.condition in
     let day = c.loop-day.day in
     let met : c.is_some_and.result ≡ passes_on passes c.reading.result = search rules in
-    let seen : c.is_some_and.result ≡ passes_on passes (f day) = met ∙ ap (passes_on passes) c.reading.ensures.value in
     let whole : day ≡ c.args.last = omega arith in
     let all : c.if-is_some_and.days ≡ days_when passes f c.args.last = rw (sym whole) (elim c.if-is_some_and.branch [
-      | then-is_some_and w ↦ w.days-is ∙ day_counted passes f day _ (omega arith) c.loop-day.invariant.0 (sym seen ∙ w.if-is_some_and.true)
-      | else-is_some_and w ↦ w.days-is ∙ day_passed_over passes f day _ (omega arith) c.loop-day.invariant.0 (sym seen ∙ w.if-is_some_and.false)
+      | then-is_some_and w ↦ w.days-is ∙ day_counted passes f day _ (omega arith) c.loop-day.invariant.0 _ c.reading.ensures.value (sym met ∙ w.if-is_some_and.true)
+      | else-is_some_and w ↦ w.days-is ∙ day_passed_over passes f day _ (omega arith) c.loop-day.invariant.0 _ c.reading.ensures.value (sym met ∙ w.if-is_some_and.false)
     ]) in
     record { value = all; law = counted passes f c.args.last _ all; same = search rules }
