@@ -1,7 +1,7 @@
 // Days that meet a condition.
 ghost use Rattle.std.specs.Prelude.{◌≡◌};
 ghost use Rattle.columns.specs.Columns.{column};
-ghost use Rattle.columns.specs.Counts.{meets, shows, passes_on, days_when, Counted};
+ghost use Rattle.columns.specs.Counts.{meets, shows, days_when, Counted};
 
 use crate::condition::Condition;
 use crate::limit::{Comparison, Limit};
@@ -33,18 +33,9 @@ impl Condition for Phenomenon {
 
     fn is_met(&self, value: i32) -> bool {
         match self {
-            Phenomenon::Thunder => value == THUNDER || value == BOTH,
-            Phenomenon::Hail => value == HAIL || value == BOTH,
+            Phenomenon::Thunder => matches!(value, THUNDER | BOTH),
+            Phenomenon::Hail => matches!(value, HAIL | BOTH),
         }
-    }
-}
-
-fn is_met_on<C: Condition>(condition: C, value: Option<i32>) -> bool
-    ensures { result ≡ passes_on (C.passes condition) value }
-{
-    match value {
-        Some(value) => condition.is_met(value),
-        None => false,
     }
 }
 
@@ -59,9 +50,9 @@ pub fn days_when<S: DaySource, C: Condition>(
     ensures law { Counted (C.passes condition) (column (S.grid source.now) element) last result }
     ensures same { source.exit.now ≡ source.entry.now }
 {
-    let mut days: u8 = 0;
-    for passed in 0..last {
-        if is_met_on(condition, reading(source, passed + 1, element)) {
+    let mut days = 0;
+    for day in 1..=last {
+        if reading(source, day, element).is_some_and(|value| condition.is_met(value)) {
             days += 1;
         }
     }

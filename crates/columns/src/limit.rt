@@ -1,14 +1,14 @@
 // Limits on an element's values.
 use station::element::Element;
 
-#[derive(Clone, Copy)]
+#[derive(Clone, Copy, PartialEq, Eq, Debug)]
 pub enum Comparison {
     AtLeast,
     Above,
     Under,
 }
 
-#[derive(Clone, Copy)]
+#[derive(Clone, Copy, PartialEq, Eq, Debug)]
 pub struct Limit {
     pub element: Element,
     pub comparison: Comparison,

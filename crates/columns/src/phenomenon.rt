@@ -1,5 +1,5 @@
 // The kinds of weather that a report counts days of.
-#[derive(Clone, Copy)]
+#[derive(Clone, Copy, PartialEq, Eq, Debug)]
 pub enum Phenomenon {
     Thunder,
     Hail,

@@ -5,122 +5,42 @@ ghost use Rattle.columns.specs.Counts.{limits};
 use crate::limit::{Comparison, Limit};
 use station::element::Element;
 
-const LIMITS: [Limit; 22] = [
-    Limit {
-        element: Element::HighestTemperature,
-        comparison: Comparison::AtLeast,
-        bound: 250,
-    },
-    Limit {
-        element: Element::HighestTemperature,
-        comparison: Comparison::AtLeast,
-        bound: 300,
-    },
-    Limit {
-        element: Element::HighestTemperature,
-        comparison: Comparison::AtLeast,
-        bound: 350,
-    },
-    Limit {
-        element: Element::HighestTemperature,
-        comparison: Comparison::AtLeast,
-        bound: 400,
-    },
-    Limit {
-        element: Element::LowestTemperature,
-        comparison: Comparison::Under,
-        bound: 0,
-    },
-    Limit {
-        element: Element::HighestTemperature,
-        comparison: Comparison::Under,
-        bound: 0,
-    },
-    Limit {
-        element: Element::Rain,
-        comparison: Comparison::AtLeast,
-        bound: 10,
-    },
-    Limit {
-        element: Element::Rain,
-        comparison: Comparison::AtLeast,
-        bound: 50,
-    },
-    Limit {
-        element: Element::Rain,
-        comparison: Comparison::AtLeast,
-        bound: 100,
-    },
-    Limit {
-        element: Element::Rain,
-        comparison: Comparison::AtLeast,
-        bound: 500,
-    },
-    Limit {
-        element: Element::Rain,
-        comparison: Comparison::AtLeast,
-        bound: 1000,
-    },
-    Limit {
-        element: Element::Rain,
-        comparison: Comparison::AtLeast,
-        bound: 1500,
-    },
-    Limit {
-        element: Element::SnowDepth,
-        comparison: Comparison::Above,
-        bound: 0,
-    },
-    Limit {
-        element: Element::SnowDepth,
-        comparison: Comparison::Above,
-        bound: 1,
-    },
-    Limit {
-        element: Element::SnowDepth,
-        comparison: Comparison::Above,
-        bound: 10,
-    },
-    Limit {
-        element: Element::SnowDepth,
-        comparison: Comparison::Above,
-        bound: 50,
-    },
-    Limit {
-        element: Element::Wind,
-        comparison: Comparison::AtLeast,
-        bound: 100,
-    },
-    Limit {
-        element: Element::Wind,
-        comparison: Comparison::AtLeast,
-        bound: 200,
-    },
-    Limit {
-        element: Element::Wind,
-        comparison: Comparison::AtLeast,
-        bound: 300,
-    },
-    Limit {
-        element: Element::Visibility,
-        comparison: Comparison::Under,
-        bound: 5,
-    },
-    Limit {
-        element: Element::Visibility,
-        comparison: Comparison::Under,
-        bound: 10,
-    },
-    Limit {
-        element: Element::Visibility,
-        comparison: Comparison::Under,
-        bound: 100,
-    },
-];
-
 // In the order of the report.
 pub fn report_limits() -> [Limit; 22]
     ensures { result ≡ limits }
 {
-    LIMITS
+    [
+        limit(Element::HighestTemperature, Comparison::AtLeast, 250),
+        limit(Element::HighestTemperature, Comparison::AtLeast, 300),
+        limit(Element::HighestTemperature, Comparison::AtLeast, 350),
+        limit(Element::HighestTemperature, Comparison::AtLeast, 400),
+        limit(Element::LowestTemperature, Comparison::Under, 0),
+        limit(Element::HighestTemperature, Comparison::Under, 0),
+        limit(Element::Rain, Comparison::AtLeast, 10),
+        limit(Element::Rain, Comparison::AtLeast, 50),
+        limit(Element::Rain, Comparison::AtLeast, 100),
+        limit(Element::Rain, Comparison::AtLeast, 500),
+        limit(Element::Rain, Comparison::AtLeast, 1000),
+        limit(Element::Rain, Comparison::AtLeast, 1500),
+        limit(Element::SnowDepth, Comparison::Above, 0),
+        limit(Element::SnowDepth, Comparison::Above, 1),
+        limit(Element::SnowDepth, Comparison::Above, 10),
+        limit(Element::SnowDepth, Comparison::Above, 50),
+        limit(Element::Wind, Comparison::AtLeast, 100),
+        limit(Element::Wind, Comparison::AtLeast, 200),
+        limit(Element::Wind, Comparison::AtLeast, 300),
+        limit(Element::Visibility, Comparison::Under, 5),
+        limit(Element::Visibility, Comparison::Under, 10),
+        limit(Element::Visibility, Comparison::Under, 100),
+    ]
+}
+
+fn limit(element: Element, comparison: Comparison, bound: i32) -> Limit
+    ensures { result ≡ record { element = element; comparison = comparison; bound = bound } }
+{
+    Limit {
+        element,
+        comparison,
+        bound,
+    }
 }

@@ -1,6 +1,5 @@
 pub mod OnShown
 pub mod OnBounds
 pub mod OnMeans
-pub mod OnDays
 pub mod OnTotals
 pub mod OnExamples

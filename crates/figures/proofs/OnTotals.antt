@@ -1,47 +1,23 @@
 -- When a total is shown, and what it is. Assumes nothing.
-use Rattle.std.proofs.Common.{◌≡◌, ℕ, ◌<◌, ◌≤◌, Bool, true, false, cond, pos, ◌*ℤ◌, Some, None, sym, refl, ap, ◌∙◌, subst, arith}
+use Rattle.std.proofs.Common.{◌≡◌, ℕ, ◌≤◌, pos, ◌*ℤ◌, Some, None, Option, refl, ap, ◌∙◌, arith}
 use lib.IntN.{*ℤ-zero, pos-*ℤ-pos}
+use Rattle.std.specs.Option.{option_map}
 use Rattle.std.proofs.lemmas.Int.{ints}
-use Rattle.std.proofs.lemmas.Bool.{eq-eqb, ne_eqb, cond-true, cond-false}
+use Rattle.std.proofs.lemmas.Option.{cond_some}
 use Rattle.station.specs.declared.element.Element.{Element}
 use Rattle.station.specs.declared.element.Element.TheVariants.{Rain, Sunshine}
 use Rattle.station.specs.Elements.{lowest_of}
 use Rattle.daybook.specs.Grid.{Grid, Valid}
-use Rattle.columns.specs.Columns.{Column, column, empties, present, sum}
+use Rattle.columns.specs.Columns.{Column, column, present, sum}
 use Rattle.columns.proofs.OnColumns.{every_day}
-use Rattle.rounding.specs.Rain.{rain_code, StandsFor, Coded}
-use Rattle.rounding.specs.Sunshine.{whole_hours, Hours, HoursLaw, percentage_of, Percentage, PercentageLaw}
+use Rattle.rounding.specs.Rain.{rain_code, StandsFor}
+use Rattle.rounding.specs.Sunshine.{whole_hours, Hours, percentage_of, Percentage}
+use Rattle.rounding.proofs.OnRain.{coded_by}
+use Rattle.rounding.proofs.OnSunshine.{hours_by, percentage_by}
 use Rattle.figures.specs.Days.{is_complete}
 use Rattle.figures.specs.Totals.{total, total_shown, rain_shown, RainOf, sunshine_shown, SunshineOf, percentage_shown, PercentageShown}
-use Rattle.figures.proofs.OnShown.{hidden, shown_by}
+use Rattle.figures.proofs.OnShown.{shown_on, mapped_on}
 use Rattle.figures.proofs.OnBounds.{sum_from, sum_to, value_from, value_to}
-
-module _ (f : Column) (d : ℕ) where
-  pub total_hidden : 0 < empties f d → None ≡ total_shown f d
-  unfolding total_shown
-  total_hidden h = sym (cond-false (is_complete f d) _ None (ne_eqb (empties f d) 0 (λ z. omega arith)))
-
-  pub total_there : (t : ℕ) → empties f d ≤ 0 → t ≡ total f d → Some t ≡ total_shown f d
-  unfolding total_shown
-  total_there t h e = ap Some e ∙ sym (cond-true (is_complete f d) _ None (eq-eqb (empties f d) 0 (omega arith)))
-
--- what a total that is shown, or not, tells
-given_by : (b : Bool) (t n : ℕ) → Some t ≡ cond b (Some n) None → (b ≡ true) × (t ≡ n)
-given_by true t n e = (refl, cc)
-given_by false t n e = absurd (grind arith)
-
-missing_by : (b : Bool) (n : ℕ) → None ≡ cond b (Some n) None → b ≡ false
-missing_by true n e = absurd (grind arith)
-missing_by false n e = refl
-
-module _ (f : Column) (d : ℕ) where
-  pub total_given : (t : ℕ) → Some t ≡ total_shown f d → (is_complete f d ≡ true) × (t ≡ total f d)
-  unfolding total_shown
-  total_given t e = given_by (is_complete f d) t (total f d) e
-
-  pub total_missing : None ≡ total_shown f d → is_complete f d ≡ false
-  unfolding total_shown
-  total_missing e = missing_by (is_complete f d) (total f d) e
 
 -- the sum of values that are never below zero is not below zero
 module _ (g : Grid) (valid : Valid g) (d : ℕ) where
@@ -57,61 +33,39 @@ module _ (g : Grid) (valid : Valid g) (d : ℕ) where
       let product = pos-*ℤ-pos (present (column g Sunshine) d) 240 in
       omega (arith, ints, every_day (column g Sunshine) d, whole Sunshine refl)
 
-  -- ---- rain
-  pub rain_hidden : is_complete (column g Rain) d ≡ false → None ≡ rain_shown (column g Rain) d
+  pub rain_law : RainOf (column g Rain) d (rain_shown (column g Rain) d)
   unfolding rain_shown
-  rain_hidden h = sym (cond-false (is_complete (column g Rain) d) _ None h)
+  rain_law =
+      let code = coded_by (total (column g Rain) d) _ refl in
+      record { whole = whole Rain refl; shown = shown_on (is_complete (column g Rain) d) (StandsFor (total (column g Rain) d)) _ code.stands code.only }
 
-  pub rain_there : (t c : ℕ) → is_complete (column g Rain) d ≡ true → t ≡ total (column g Rain) d → c ≡ rain_code t → Some c ≡ rain_shown (column g Rain) d
-  unfolding rain_shown
-  rain_there t c h e k = ap Some (k ∙ ap rain_code e) ∙ sym (cond-true (is_complete (column g Rain) d) _ None h)
-
-  pub no_rain_law : is_complete (column g Rain) d ≡ false → RainOf (column g Rain) d None
-  no_rain_law h = record { whole = whole Rain refl; shown = hidden (is_complete (column g Rain) d) (StandsFor (total (column g Rain) d)) h }
-
-  pub rain_law : (t c : ℕ) → is_complete (column g Rain) d ≡ true → t ≡ total (column g Rain) d → Coded t c → RainOf (column g Rain) d (Some c)
-  rain_law t c h e law =
-      let here : Coded (total (column g Rain) d) c = subst (λ z. Coded z c) e law in
-      record { whole = whole Rain refl; shown = shown_by (is_complete (column g Rain) d) (StandsFor (total (column g Rain) d)) c h here.stands here.only }
-
-  -- ---- sunshine
-  pub sunshine_hidden : is_complete (column g Sunshine) d ≡ false → None ≡ sunshine_shown (column g Sunshine) d
+  pub sunshine_law : d ≤ 31 → SunshineOf (column g Sunshine) d (sunshine_shown (column g Sunshine) d)
   unfolding sunshine_shown
-  sunshine_hidden h = sym (cond-false (is_complete (column g Sunshine) d) _ None h)
-
-  pub sunshine_there : (t c : ℕ) → is_complete (column g Sunshine) d ≡ true → t ≡ total (column g Sunshine) d → c ≡ whole_hours t → Some c ≡ sunshine_shown (column g Sunshine) d
-  unfolding sunshine_shown
-  sunshine_there t c h e k = ap Some (k ∙ ap whole_hours e) ∙ sym (cond-true (is_complete (column g Sunshine) d) _ None h)
-
-  pub no_sunshine_law : is_complete (column g Sunshine) d ≡ false → SunshineOf (column g Sunshine) d None
-  no_sunshine_law h = record {
-    whole = whole Sunshine refl;
-    shown = hidden (is_complete (column g Sunshine) d) (Hours (total (column g Sunshine) d)) h;
-    most = λ k e. absurd (grind arith);
-  }
-
-  pub sunshine_law : (t c : ℕ) → d ≤ 31 → is_complete (column g Sunshine) d ≡ true → t ≡ total (column g Sunshine) d → HoursLaw t c → SunshineOf (column g Sunshine) d (Some c)
-  sunshine_law t c short h e law =
-      let here : HoursLaw (total (column g Sunshine) d) c = subst (λ z. HoursLaw z c) e law in
+  sunshine_law short =
+      let hours = hours_by (total (column g Sunshine) d) _ refl in
       let bound = most_sunshine short in
       record {
         whole = whole Sunshine refl;
-        shown = shown_by (is_complete (column g Sunshine) d) (Hours (total (column g Sunshine) d)) c h here.stands here.only;
-        most = λ k s. let same : c ≡ k = cc in omega (arith, here.stands.low);
+        shown = shown_on (is_complete (column g Sunshine) d) (Hours (total (column g Sunshine) d)) _ hours.stands hours.only;
+        most = λ h e. let here = cond_some (is_complete (column g Sunshine) d) _ h e in omega (arith, hours.stands.low);
       }
 
--- ---- the percentage
-module _ (f : Column) (d normal : ℕ) where
-  pub percentage_hidden : is_complete f d ≡ false → None ≡ percentage_shown f d (Some normal)
-  percentage_hidden h = sym (cond-false (is_complete f d) _ None h)
+pub percentage_law : (f : Column) (d : ℕ) (normal : Option ℕ) → PercentageShown f d normal (percentage_shown f d normal)
+percentage_law f d None = refl
+percentage_law f d (Some normal) =
+    let part = percentage_by (total f d) normal _ refl in
+    shown_on (is_complete f d) (Percentage (total f d) normal) _ part.stands part.only
 
-  pub percentage_there : (t p : ℕ) → is_complete f d ≡ true → t ≡ total f d → p ≡ percentage_of t normal → Some p ≡ percentage_shown f d (Some normal)
-  percentage_there t p h e k = ap Some (k ∙ ap (λ z. percentage_of z normal) e) ∙ sym (cond-true (is_complete f d) _ None h)
+-- ---- figures made of the total
+module _ (f : Column) (d : ℕ) (o : Option ℕ) (is : o ≡ total_shown f d) where
+  pub rain_value : option_map rain_code o ≡ rain_shown f d
+  unfolding total_shown rain_shown
+  rain_value = ap (option_map rain_code) is ∙ mapped_on rain_code (is_complete f d) (total f d)
 
-  pub no_percentage_law : is_complete f d ≡ false → PercentageShown f d (Some normal) None
-  no_percentage_law h = hidden (is_complete f d) (Percentage (total f d) normal) h
+  pub sunshine_value : option_map whole_hours o ≡ sunshine_shown f d
+  unfolding total_shown sunshine_shown
+  sunshine_value = ap (option_map whole_hours) is ∙ mapped_on whole_hours (is_complete f d) (total f d)
 
-  pub percentage_law : (t p : ℕ) → is_complete f d ≡ true → t ≡ total f d → PercentageLaw t normal p → PercentageShown f d (Some normal) (Some p)
-  percentage_law t p h e law =
-      let here : PercentageLaw (total f d) normal p = subst (λ z. PercentageLaw z normal p) e law in
-      shown_by (is_complete f d) (Percentage (total f d) normal) p h here.stands here.only
+  pub percentage_value : (normal : ℕ) → option_map (λ t. percentage_of t normal) o ≡ percentage_shown f d (Some normal)
+  unfolding total_shown
+  percentage_value normal = ap (option_map (λ t. percentage_of t normal)) is ∙ mapped_on (λ t. percentage_of t normal) (is_complete f d) (total f d)

@@ -7,12 +7,10 @@ ghost use Rattle.station.specs.Months.{days_of};
 ghost use Rattle.figures.specs.Days.{one_digit, pressure_missing, count_shown};
 
 use columns::condition::Condition;
-use columns::count::days_when;
 use columns::limit::{Comparison, Limit};
+use columns::month::ObservedMonth;
 use columns::phenomenon::Phenomenon;
-use columns::sums::tally;
 use daybook::source::DaySource;
-use station::calendar::CalendarMonth;
 use station::element::Element;
 
 // The highest number that one digit tells.
@@ -27,69 +25,57 @@ const RAIN_DAY: Limit = Limit {
 };
 
 // The days of the month on which the element has no value.
-pub fn missing<S: DaySource>(source: &S, element: Element, month: CalendarMonth) -> u8
-    ensures value { result ≡ empties (column (S.grid source.now) element) (days_of month) }
-    ensures same { source.exit.now ≡ source.entry.now }
+pub fn missing<S: DaySource>(month: ObservedMonth<'_, S>, element: Element) -> u8
+    ensures { result ≡ empties (column (S.grid month.entry.source.now) element) (days_of month.entry.calendar) }
 {
-    tally(source, element, month.length()).empties
+    month.tally(element).empties
 }
 
 // The same in one digit: more than nine are told as nine.
-pub fn missing_digit<S: DaySource>(source: &S, element: Element, month: CalendarMonth) -> u8
-    ensures value { result ≡ one_digit (empties (column (S.grid source.now) element) (days_of month)) }
-    ensures same { source.exit.now ≡ source.entry.now }
+pub fn missing_digit<S: DaySource>(month: ObservedMonth<'_, S>, element: Element) -> u8
+    ensures { result ≡ one_digit (empties (column (S.grid month.entry.source.now) element) (days_of month.entry.calendar)) }
 {
-    missing(source, element, month).min(MOST_TOLD)
+    missing(month, element).min(MOST_TOLD)
 }
 
 // The missing days of pressure: the larger of those at the station and at sea level.
-pub fn missing_pressure<S: DaySource>(source: &S, month: CalendarMonth) -> u8
-    ensures value { result ≡ pressure_missing (S.grid source.now) (days_of month) }
-    ensures same { source.exit.now ≡ source.entry.now }
+pub fn missing_pressure<S: DaySource>(month: ObservedMonth<'_, S>) -> u8
+    ensures { result ≡ pressure_missing (S.grid month.entry.source.now) (days_of month.entry.calendar) }
 {
-    let station = missing(source, Element::StationPressure, month);
-    station.max(missing(source, Element::SeaLevelPressure, month))
+    let station = missing(month, Element::StationPressure);
+    station.max(missing(month, Element::SeaLevelPressure))
 }
 
 fn shown_count<S: DaySource, C: Condition>(
-    source: &S,
+    month: ObservedMonth<'_, S>,
     element: Element,
     condition: C,
-    month: CalendarMonth,
 ) -> Option<u8>
-    ensures value { result ≡ count_shown (C.passes condition) (column (S.grid source.now) element) (days_of month) }
-    ensures same { source.exit.now ≡ source.entry.now }
+    ensures { result ≡ count_shown (C.passes condition) (column (S.grid month.entry.source.now) element) (days_of month.entry.calendar) }
 {
-    if missing(source, element, month) > NONE_MISSING {
-        return None;
-    }
-    Some(days_when(source, element, condition, month.length()))
+    (missing(month, element) == NONE_MISSING).then(move || month.days_when(element, condition))
 }
 
 // On how many days the limit's element meets it; none where a day is empty.
-pub fn days_at_limit<S: DaySource>(source: &S, limit: Limit, month: CalendarMonth) -> Option<u8>
-    ensures value { result ≡ count_shown (meets limit) (column (S.grid source.now) limit.element) (days_of month) }
-    ensures same { source.exit.now ≡ source.entry.now }
+pub fn days_at_limit<S: DaySource>(month: ObservedMonth<'_, S>, limit: Limit) -> Option<u8>
+    ensures { result ≡ count_shown (meets limit) (column (S.grid month.entry.source.now) limit.element) (days_of month.entry.calendar) }
 {
-    shown_count(source, limit.element, limit, month)
+    shown_count(month, limit.element, limit)
 }
 
 // On how many days there was rain of 1.0 mm or more; none where a day is empty.
-pub fn rain_days<S: DaySource>(source: &S, month: CalendarMonth) -> Option<u8>
-    ensures value { result ≡ count_shown (meets rain_day) (column (S.grid source.now) Rain) (days_of month) }
-    ensures same { source.exit.now ≡ source.entry.now }
+pub fn rain_days<S: DaySource>(month: ObservedMonth<'_, S>) -> Option<u8>
+    ensures { result ≡ count_shown (meets rain_day) (column (S.grid month.entry.source.now) Rain) (days_of month.entry.calendar) }
 {
-    days_at_limit(source, RAIN_DAY, month)
+    days_at_limit(month, RAIN_DAY)
 }
 
 // On how many days there was thunder, or hail; none where a day's weather is not known.
 pub fn days_of_weather<S: DaySource>(
-    source: &S,
+    month: ObservedMonth<'_, S>,
     phenomenon: Phenomenon,
-    month: CalendarMonth,
 ) -> Option<u8>
-    ensures value { result ≡ count_shown (shows phenomenon) (column (S.grid source.now) Weather) (days_of month) }
-    ensures same { source.exit.now ≡ source.entry.now }
+    ensures { result ≡ count_shown (shows phenomenon) (column (S.grid month.entry.source.now) Weather) (days_of month.entry.calendar) }
 {
-    shown_count(source, Element::Weather, phenomenon, month)
+    shown_count(month, Element::Weather, phenomenon)
 }

@@ -6,24 +6,22 @@ ghost use Rattle.station.specs.Months.{days_of};
 ghost use Rattle.figures.specs.Examples.{Examples};
 ghost use Rattle.figures.specs.Means.{mean_shown, MeanOf, deviation_shown, DeviationOf};
 
-use columns::sums::tally;
+use columns::month::ObservedMonth;
 use daybook::source::DaySource;
 use rounding::deviation::deviation;
 use rounding::mean::nearest;
-use station::calendar::CalendarMonth;
 use station::element::Element;
 
 // The most days that may be empty where a mean is shown.
 const MOST_EMPTY: u8 = 3;
 
 // The mean of an element over the month; none where more than three days are empty.
-pub fn mean<S: DaySource>(source: &S, element: Element, month: CalendarMonth) -> Option<i32>
-    ensures value { result ≡ mean_shown (column (S.grid source.now) element) (days_of month) }
-    ensures law { MeanOf element (column (S.grid source.now) element) (days_of month) result }
+pub fn mean<S: DaySource>(month: ObservedMonth<'_, S>, element: Element) -> Option<i32>
+    ensures value { result ≡ mean_shown (column (S.grid month.entry.source.now) element) (days_of month.entry.calendar) }
+    ensures law { MeanOf element (column (S.grid month.entry.source.now) element) (days_of month.entry.calendar) result }
     ensures examples { Examples }
-    ensures same { source.exit.now ≡ source.entry.now }
 {
-    let tally = tally(source, element, month.length());
+    let tally = month.tally(element);
     if tally.empties > MOST_EMPTY {
         return None;
     }
@@ -31,12 +29,11 @@ pub fn mean<S: DaySource>(source: &S, element: Element, month: CalendarMonth) ->
 }
 
 // The standard deviation of the month's mean temperatures, in tenths; none where their mean is not shown.
-pub fn temperature_deviation<S: DaySource>(source: &S, month: CalendarMonth) -> Option<u16>
-    ensures value { result ≡ deviation_shown (column (S.grid source.now) MeanTemperature) (days_of month) }
-    ensures law { DeviationOf (column (S.grid source.now) MeanTemperature) (days_of month) result }
-    ensures same { source.exit.now ≡ source.entry.now }
+pub fn temperature_deviation<S: DaySource>(month: ObservedMonth<'_, S>) -> Option<u16>
+    ensures value { result ≡ deviation_shown (column (S.grid month.entry.source.now) MeanTemperature) (days_of month.entry.calendar) }
+    ensures law { DeviationOf (column (S.grid month.entry.source.now) MeanTemperature) (days_of month.entry.calendar) result }
 {
-    let tally = tally(source, Element::MeanTemperature, month.length());
+    let tally = month.tally(Element::MeanTemperature);
     if tally.empties > MOST_EMPTY {
         return None;
     }

@@ -1,37 +1,27 @@
-use Rattle.std.proofs.Common.{◌≡◌, refl, ap, ◌∙◌, subst, arith, w32, SFits, rules}
+use Rattle.std.proofs.Common.{◌≡◌, sym, ◌∙◌, subst, arith, w32, SFits, rules}
 use Rattle.std.proofs.lemmas.Int.{to_z-of_z}
-use Rattle.columns.specs.declared.tally.Tally.{Tally}
-use Rattle.columns.specs.Columns.{column, present, sum, tally_of}
-use Rattle.rounding.specs.Means.{mean_of, Averaged}
+use Rattle.rounding.specs.Means.{mean_of}
+use Rattle.columns.specs.Columns.{column}
 use Rattle.station.specs.Months.{days_of}
-use Rattle.figures.proofs.OnMeans.{mean_hidden, mean_there, hidden_mean, mean_law}
+use Rattle.figures.specs.Means.{MeanOf}
+use Rattle.figures.proofs.OnMeans.{month_least, mean_hidden, mean_there, mean_law}
 use Rattle.figures.proofs.OnExamples.{examples}
 use Rattle.figures.proofs.means.mean.Goals as goal
 
-pub returns-then-tally-gt-MOST_EMPTY : goal.returns-then-tally-gt-MOST_EMPTY
-returns-then-tally-gt-MOST_EMPTY g c =
-    let f = column (g.S.DaySource.grid c.args.source.now) c.args.element in
-    let t = c.tally-tally.ensures.value ∙ ap (tally_of f) c.length.ensures.value in
-    let few = ap (λ u. u.empties) t in
-    record { value = mean_hidden f (days_of c.args.month) (omega arith); law = hidden_mean c.args.element f (days_of c.args.month) (omega arith); examples = examples; same = refl }
+pub returns-then-tally-gt-MOST_EMPTY-clause-value : goal.returns-then-tally-gt-MOST_EMPTY-clause-value
+returns-then-tally-gt-MOST_EMPTY-clause-value g c = mean_hidden _ _ c.tally-tally.result c.tally-tally.ensures.value c.if-tally-gt-MOST_EMPTY.true
+
+pub returns-then-tally-gt-MOST_EMPTY-clause-examples : goal.returns-then-tally-gt-MOST_EMPTY-clause-examples
+returns-then-tally-gt-MOST_EMPTY-clause-examples g c = examples
 
 pub returns : goal.returns
 returns g c =
-    let grid = g.S.DaySource.grid c.args.source.now in
+    let grid = g.S.DaySource.grid c.args.month.source.now in
     let f = column grid c.args.element in
-    let d = days_of c.args.month in
-    let t = c.tally-tally.ensures.value ∙ ap (tally_of f) c.length.ensures.value in
-    let few = ap (λ u. u.empties) t in
-    let fits : SFits w32 c.tally-tally.result.sum = search rules in
-    let whole = to_z-of_z w32 c.tally-tally.result.sum fits in
-    let r = c.nearest.result in
-    let w = subst (λ z. Averaged z c.from.result r) whole c.nearest.ensures.law in
-    let value : r ≡ mean_of (sum f d) (present f d) = c.nearest.ensures.value ∙ ap (λ z. mean_of z c.from.result) whole ∙ ap (mean_of c.tally-tally.result.sum) c.from.ensures ∙ ap (λ (u : Tally). mean_of u.sum u.present) t in
-    let law : Averaged (sum f d) (present f d) r = subst (λ (u : Tally). Averaged u.sum u.present r) t (subst (λ n. Averaged c.tally-tally.result.sum n r) c.from.ensures w) in
-    let long = c.length.ensures.least in
-    record {
-      value = mean_there f d (omega arith) r value;
-      law = mean_law grid c.args.element (g.S.DaySource.valid c.args.source.now) d r (omega (arith, c.length.ensures.value)) (omega arith) law;
-      examples = examples;
-      same = refl;
-    }
+    let m = c.args.month.calendar in
+    let t = c.tally-tally.result in
+    let fits : SFits w32 t.sum = search rules in
+    let nearest : c.nearest.result ≡ mean_of t.sum t.present = rw c.from.ensures at (simp to_z-of_z at c.nearest.ensures.value) in
+    let value = nearest ∙ mean_there f (days_of m) t c.tally-tally.ensures.value c.if-tally-gt-MOST_EMPTY.false in
+    let law = mean_law grid c.args.element (g.met.S.DaySource.valid c.args.month.source.now) (days_of m) (omega (arith, month_least m)) in
+    record { value = value; law = subst (MeanOf c.args.element f (days_of m)) (sym value) law; examples = examples }
