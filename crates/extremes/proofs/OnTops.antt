@@ -1,18 +1,34 @@
--- The extreme of days, day by day, and that there is only one. Assumes nothing of the ranking but its two laws.
-use Rattle.std.proofs.Common.{◌≡◌, ℕ, ◌+◌, ◌≤◌, Bool, true, false, Some, None, Option, sym, refl, ap, ◌∙◌, subst, inl, inr, ⊎_elim, arith}
+-- The extreme of days, day by day, and that there is only one.
+use Rattle.std.proofs.Common.{◌≡◌, ℕ, ◌+◌, ◌-◌, ◌≤◌, Bool, true, false, Some, None, Option, sym, refl, ap, ◌∙◌, subst, inl, inr, ⊎_elim, arith}
 use Rattle.std.proofs.lemmas.Bool.{both_ways, cases_lt, cases_Bool}
+use Rattle.std.proofs.lemmas.Option.{none-some, same_Some}
+use Rattle.std.proofs.lemmas.Cmp.{upto}
+use Rattle.std.specs.Cmp.{IsTotalOrder}
+use Rattle.std.specs.Ordering.{is_gt, ordering_reverse}
+use Rattle.std.specs.declared.cmp.Ordering.{Ordering}
+use Rattle.std.specs.declared.cmp.Ordering.TheVariants.{Less, Equal, Greater}
 use Rattle.extremes.specs.declared.search.Extreme.{Extreme}
-use Rattle.extremes.specs.Tops.{Full, Lacking, Agree, Tops, Right, Searched, after_day}
-
-same_value : {X : Type 0} (x y : X) → Some x ≡ Some y → x ≡ y
-same_value x y e = cc
+use Rattle.extremes.specs.Tops.{Full, Lacking, Agree, Tops, Right, Searched, above, after_day}
 
 same_extreme : {X : Type 0} (e f : Extreme X) → e.reading ≡ f.reading → e.day ≡ f.day → e.recurs ≡ f.recurs → e ≡ f
 same_extreme e f x d r = λ i. record { reading = x i; day = d i; recurs = r i }
 
+Greater-one_way : (r : Ordering) → is_gt r ≡ true → is_gt (ordering_reverse r) ≡ false
+Greater-one_way Less e = cc
+Greater-one_way Equal e = cc
+Greater-one_way Greater e = refl
+
 -- ---- one more day
-module _ {X : Type 0} (over : X → X → Bool) (one_way : (x y : X) → over x y ≡ true → over y x ≡ false)
-    (chain : (x y z : X) → over x y ≡ false → over y z ≡ false → over x z ≡ false) (at : ℕ → Option X) where
+module _ {X : Type 0} (order : X → X → Ordering) (total : IsTotalOrder order) (at : ℕ → Option X) where
+  abbrev over : X → X → Bool
+  over = above order
+
+  one_way : (x y : X) → over x y ≡ true → over y x ≡ false
+  one_way x y up = ap is_gt (total.antisymm y x) ∙ Greater-one_way (order x y) up
+
+  chain : (x y z : X) → over x y ≡ false → over y z ≡ false → over x z ≡ false
+  chain = upto total
+
   not_itself : (x : X) → over x x ≡ false
   not_itself x = ⊎_elim (λ t. one_way x x t) (λ f. f) (cases_Bool (over x x))
 
@@ -21,7 +37,7 @@ module _ {X : Type 0} (over : X → X → Bool) (one_way : (x y : X) → over x 
   more P n k x y e below here le r =
       ⊎_elim
       (λ lt. below (omega arith))
-      (λ ge. let z : k ≡ n + 1 = omega arith in subst P (same_value x y (e ∙ ap at (sym z) ∙ r)) here)
+      (λ ge. let z : k ≡ n + 1 = omega arith in subst P (same_Some x y (e ∙ ap at (sym z) ∙ r)) here)
       (cases_lt k (n + 1))
 
   pub tops_one : (x : X) → Some x ≡ at 1 → Tops over at 1 x 1 false
@@ -30,7 +46,7 @@ module _ {X : Type 0} (over : X → X → Bool) (one_way : (x y : X) → over x 
     to = omega arith;
     held = sym e;
     full = λ k lo hi. let z : 1 ≡ k = omega arith in (x, sym (e ∙ ap at z));
-    highest = λ k y lo hi r. let z : k ≡ 1 = omega arith in subst (λ (v : X). over v x ≡ false) (same_value x y (e ∙ ap at (sym z) ∙ r)) (not_itself x);
+    highest = λ k y lo hi r. let z : k ≡ 1 = omega arith in subst (λ (v : X). over v x ≡ false) (same_Some x y (e ∙ ap at (sym z) ∙ r)) (not_itself x);
     first = λ k y lo hi. absurd (omega arith);
     once = λ _ k y lo hi. absurd (omega arith);
     again = λ t. absurd (both_ways false refl t);
@@ -92,6 +108,12 @@ module _ {X : Type 0} (over : X → X → Bool) (one_way : (x y : X) → over x 
       (cases_Bool (over top.reading x)))
       (cases_Bool (over x top.reading))
 
+  -- the same for the days before a day, and then that day too
+  pub tops_at : (day : ℕ) (top : Extreme X) (x : X) → 1 ≤ day → Right over at (day - 1) (Some top) → Some x ≡ at day → Right over at day (Some (after_day over top x day))
+  tops_at day top x some t e =
+      let back : day - 1 + 1 ≡ day = omega arith in
+      subst (λ (n : ℕ). Right over at n (Some (after_day over top x n))) back (tops_after (day - 1) top x t (e ∙ ap at (sym back)))
+
 -- ---- no other answer
 module _ {X : Type 0} (over : X → X → Bool) (last : ℕ) where
   -- the extreme of readings is that of any others that are the same on those days
@@ -136,7 +158,7 @@ module _ {X : Type 0} (over : X → X → Bool) (last : ℕ) where
 
     not_lacking : (x : X) (j : ℕ) (r : Bool) → Tops over at last x j r → Lacking at last → ⊥
     not_lacking x j r t (inl z) = omega (arith, t.from, t.to)
-    not_lacking x j r t (inr k) = let f = t.full k.0 k.1 k.2 in let z : None ≡ Some f.0 = sym k.3 ∙ f.1 in absurd (grind arith)
+    not_lacking x j r t (inr k) = let f = t.full k.0 k.1 k.2 in none-some f.0 (sym k.3 ∙ f.1)
 
     one_right : (a b : Option (Extreme X)) → Right over at last a → Right over at last b → a ≡ b
     one_right None None l m = refl
@@ -144,7 +166,7 @@ module _ {X : Type 0} (over : X → X → Bool) (last : ℕ) where
     one_right (Some e) None t l = absurd (not_lacking _ _ _ t l)
     one_right (Some e) (Some f) t u =
         let day = one_day _ _ _ _ _ _ t u in
-        let reading = same_value e.reading f.reading (sym t.held ∙ ap at day ∙ u.held) in
+        let reading = same_Some e.reading f.reading (sym t.held ∙ ap at day ∙ u.held) in
         let recurs = one_recurs _ _ _ _ _ _ reading day t u in
         ap Some (same_extreme e f reading day recurs)
 

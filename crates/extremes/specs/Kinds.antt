@@ -1,5 +1,5 @@
 -- Which of two readings of a kind outranks the other, and the readings of a kind that a grid holds.
-use Rattle.std.specs.Prelude.{ℕ, Bool, ℤ, Some, None, Option, int_lt}
+use Rattle.std.specs.Prelude.{◌≡◌, ℕ, Bool, ℤ, Option, option_map, int_lt}
 use Rattle.station.specs.declared.element.Element.{Element}
 use Rattle.station.specs.declared.wind.WindIndicator.{WindIndicator}
 use Rattle.daybook.specs.Grid.{Grid}
@@ -41,11 +41,10 @@ as_rain v = record { 0 = v }
 abbrev pub as_wind : WindIndicator → ℤ → WindSpeed
 as_wind i v = record { speed = v; indicator = i }
 
--- a value, if there is one, as a reading of a kind
-abbrev pub read_as : {X : Type 0} → (ℤ → X) → Option ℤ → Option X
-read_as kind None = None
-read_as kind (Some v) = Some (kind v)
-
 -- what a grid holds of an element on each day, as readings of a kind
 abbrev pub days_as : {X : Type 0} → (ℤ → X) → Grid → Element → ℕ → Option X
-days_as kind g x day = read_as kind (column g x day)
+days_as kind g x day = option_map kind (column g x day)
+
+-- of each value, what is made is the reading of the kind and nothing else
+abbrev pub GivesKind : {X : Type 0} → (ℤ → X → Type 0) → (ℤ → X) → Type 0
+GivesKind {X} made kind = (value : ℤ) (reading : X) → made value reading → reading ≡ kind value

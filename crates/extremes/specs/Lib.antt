@@ -1,4 +1,3 @@
 pub mod Tops
 pub mod Kinds
 pub mod Months
-pub mod Rankings

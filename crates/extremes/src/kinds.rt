@@ -1,73 +1,52 @@
-// The kinds of reading that have an extreme, each with its ranking. The numbers are in the units of their elements.
-ghost use Rattle.extremes.specs.Kinds.{warmer, colder, rainier, windier};
-ghost use Rattle.extremes.specs.Rankings.{below_one_way, not_below_chain};
+// The kinds of reading that have an extreme, each in the order by which it is sought. The numbers are in the units of their elements.
+ghost use Rattle.std.proofs.Common.{rules};
+ghost use Rattle.std.specs.Cmp.{partial_order_from_own_ties};
+ghost use Rattle.std.specs.Cmp.Rules.{comparing};
+ghost use Rattle.std.specs.Ordering.{int_cmp, on, flip_args, as_partial_cmp};
 
-use crate::ranked::Ranked;
 use station::wind::WindIndicator;
+use std::cmp::Ordering;
 
 // A temperature of which the highest is sought.
-#[derive(Clone, Copy)]
+#[derive(Clone, Copy, PartialEq, Eq, PartialOrd, Ord)]
 pub struct HighTemperature(pub i32);
 
-impl Ranked for HighTemperature {
-    ghost over = { warmer };
+// A temperature of which the lowest is sought: in this order the lower is the greater.
+#[derive(Clone, Copy, PartialEq, Eq)]
+pub struct LowTemperature(pub i32);
 
-    ghost one_way = { λ x y. below_one_way y.0 x.0 };
+impl Ord for LowTemperature {
+    ghost cmp = { flip_args (on (λ t. t.0) int_cmp) };
 
-    ghost chain = { λ x y z h i. not_below_chain z.0 y.0 x.0 i h };
+    ghost total = { Prim.search (comparing, rules) };
 
-    fn outranks(self, other: HighTemperature) -> bool {
-        other.0 < self.0
+    ghost matches_partial_cmp = { Prim.search (comparing, rules) };
+
+    ghost matches_eq = { Prim.search (comparing, rules) };
+
+    fn cmp(&self, other: &LowTemperature) -> Ordering {
+        other.0.cmp(&self.0)
     }
 }
 
-// A temperature of which the lowest is sought.
-#[derive(Clone, Copy)]
-pub struct LowTemperature(pub i32);
+impl PartialOrd for LowTemperature {
+    ghost partial_cmp = { as_partial_cmp (flip_args (on (λ t. t.0) int_cmp)) };
 
-impl Ranked for LowTemperature {
-    ghost over = { colder };
+    ghost laws = { partial_order_from_own_ties (Prim.search (comparing, rules)) (Prim.search (comparing, rules)) };
 
-    ghost one_way = { λ x y. below_one_way x.0 y.0 };
-
-    ghost chain = { λ x y z. not_below_chain x.0 y.0 z.0 };
-
-    fn outranks(self, other: LowTemperature) -> bool {
-        self.0 < other.0
+    fn partial_cmp(&self, other: &LowTemperature) -> Option<Ordering> {
+        Some(self.cmp(other))
     }
 }
 
 // The rain of a day.
-#[derive(Clone, Copy)]
+#[derive(Clone, Copy, PartialEq, Eq, PartialOrd, Ord)]
 pub struct RainDepth(pub i32);
 
-impl Ranked for RainDepth {
-    ghost over = { rainier };
-
-    ghost one_way = { λ x y. below_one_way y.0 x.0 };
-
-    ghost chain = { λ x y z h i. not_below_chain z.0 y.0 x.0 i h };
-
-    fn outranks(self, other: RainDepth) -> bool {
-        self.0 > other.0
-    }
-}
-
-// The wind of a day. How it was observed does not bear on its rank.
-#[derive(Clone, Copy)]
+// The wind of a day. How it was observed does not bear on its rank, so that winds of one speed compare as equal.
+#[derive_where(Clone, Copy, PartialEq, Eq, PartialOrd, Ord)]
 pub struct WindSpeed {
     pub speed: i32,
+    #[derive_where(skip(EqHashOrd))]
     pub indicator: WindIndicator,
-}
-
-impl Ranked for WindSpeed {
-    ghost over = { windier };
-
-    ghost one_way = { λ x y. below_one_way y.speed x.speed };
-
-    ghost chain = { λ x y z h i. not_below_chain z.speed y.speed x.speed i h };
-
-    fn outranks(self, other: WindSpeed) -> bool {
-        self.speed > other.speed
-    }
 }

@@ -1,30 +1,42 @@
-use Rattle.std.proofs.Common.{◌≡◌, ℕ, ◌+◌, Some, None, sym, ◌∙◌, subst, inr, arith}
-use Rattle.extremes.specs.Tops.{Right}
-use Rattle.extremes.proofs.OnTops.{tops_one, tops_after, searched}
+use Rattle.std.proofs.Common.{◌≡◌, ◌+◌, ◌-◌, Some, None, sym, inr, arith}
+use Rattle.extremes.proofs.OnTops.{tops_one, tops_at, searched}
 use Rattle.extremes.proofs.search.find_extreme.Goals as goal
+use Rattle.extremes.proofs.search.find_extreme.Goals.{else-loop-day-test, then-loop-day-test+in_ok-readings-2+else-day-last}
 
-pub returns-in_default : goal.returns-in_default
-returns-in_default g c = searched _ _ _ None (inr (1, omega arith, omega arith, sym c.on.ensures ∙ c.in_default.is))
+pub loop-day-init : goal.loop-day-init
+loop-day-init g c = record {
+  so_far = λ at given. tops_one g.T.Ord.cmp g.met.T.Ord.total at c.in_ok-readings.field-0 (given 1 (omega arith) (omega arith) (Some c.in_ok-readings.field-0) c.in_ok-readings.ensures);
+  within = omega arith;
+}
 
-pub loop-passed-init : goal.loop-passed-init
-loop-passed-init g c =
-    let laws = g.met.R.Item.Ranked in
-    tops_one g.R.Item.Ranked.over laws.one_way laws.chain (g.R.Readings.at c.args.readings.now) c.in-Some.reading c.in-Some.ensures
+pub returns-in_err-readings-2 : goal.returns-in_err-readings-2
+returns-in_err-readings-2 g c at given =
+    let none = given c.loop-day.day (omega arith) (omega arith) None c.in_err-readings-2.ensures in
+    rw c.from_residual-in_err-readings-2.ensures (searched _ _ at None (inr (c.loop-day.day, omega arith, omega arith, sym {a = None} none)))
 
-pub returns-in_default-on : goal.returns-in_default-on
-returns-in_default-on g c = searched _ _ _ None (inr (c.loop-passed.passed + 1, omega arith, omega arith, sym c.on-in-loop-passed.ensures ∙ c.in_default-on.is))
-
-pub loop-passed-preserved : goal.loop-passed-preserved
-loop-passed-preserved g c =
-    let laws = g.met.R.Item.Ranked in
-    let at = g.R.Readings.at c.args.readings.now in
-    let l = c.loop-passed in
-    rw c.after-top.ensures (tops_after g.R.Item.Ranked.over laws.one_way laws.chain at l.passed l.top c.in-Some-on.next l.invariant c.in-Some-on.ensures)
+pub loop-day-preserved : goal.loop-day-preserved
+loop-day-preserved g c =
+    let l = c.loop-day in
+    let reading = c.in_ok-readings-2.field-0 in
+    let back : l.day + 1 - 1 ≡ l.day = omega arith in
+    record {
+      so_far = λ at given.
+          let next = given l.day (omega arith) (omega arith) (Some reading) c.in_ok-readings-2.ensures in
+          rw (back, c.after-top.ensures) (tops_at g.T.Ord.cmp g.met.T.Ord.total at l.day l.top reading (omega arith) (l.invariant.so_far at given) next);
+      within = omega arith;
+    }
 
 pub returns : goal.returns
-returns g c =
-    let over = g.R.Item.Ranked.over in
-    let at = g.R.Readings.at c.args.readings.now in
-    let l = c.loop-passed in
-    let end : l.passed ≡ c.args.last = omega arith in
-    searched over c.args.last at (Some l.top) (subst (λ (n : ℕ). Right over at n (Some l.top)) end l.invariant)
+returns g c at given =
+    let l = c.loop-day in
+    let before = l.invariant.so_far at given in
+    searched _ _ at (Some c.loop-day-test.top) (elim c.loop-day-test.branch [
+      | else-loop-day-test w ↦
+          let whole : l.day - 1 ≡ c.args.last = omega (arith, l.invariant.within) in
+          rw (w.top-is, sym whole) before
+      | then-loop-day-test+in_ok-readings-2+else-day-last w ↦
+          let whole : l.day ≡ c.args.last = omega arith in
+          let reading = w.in_ok-readings-2.field-0 in
+          let last = given l.day (omega arith) (omega arith) (Some reading) w.in_ok-readings-2.ensures in
+          rw (w.top-is, w.after-top.ensures, sym whole) (tops_at g.T.Ord.cmp g.met.T.Ord.total at l.day l.top reading (omega arith) before last)
+    ])
