@@ -1,5 +1,5 @@
 -- What a register holds, by its rows, and what a put makes of it. Assumes nothing.
-use Rattle.std.proofs.Common.{◌≡◌, ℕ, suc, ◌+◌, ◌<◌, ◌≤◌, Bool, true, false, cond, not, ◌||◌, ltb, leb, List, [], ◌∷◌, ◌++◌, length, take, drop, ℤ, pos, is_some, Some, None, Ok, Err, Option, sym, refl, ap, ◌∙◌, ⊎_elim, arith}
+use Rattle.std.proofs.Common.{◌≡◌, ℕ, suc, ◌+◌, ◌<◌, ◌≤◌, Bool, true, false, cond, not, ◌||◌, ltb, leb, List, [], ◌∷◌, ◌++◌, length, take, drop, ℤ, pos, is_ok, is_some, Some, None, Ok, Err, Option, Result, MatchResult, IsErrAnd, sym, refl, ap, ◌∙◌, ⊎_elim, arith}
 use mathlib.Core.Path.{fun_ext}
 use Rattle.std.proofs.lemmas.Bool.Decides.{nat_tests}
 use Rattle.std.proofs.lemmas.Int.{ints}
@@ -13,7 +13,6 @@ use Rattle.ordered_table.specs.declared.row.Row.{Row}
 use Rattle.ordered_table.specs.Rows.{found, placed, entry_where}
 use Rattle.ordered_table.specs.Order.{rising}
 use Rattle.ordered_table.proofs.OnEntries.{found_where, where_placed}
-use Rattle.ordered_table.proofs.OnOrder.{rising_placed}
 use Rattle.ordered_table.proofs.OnTables.{unchanged}
 use Rattle.normals.specs.declared.record.Normals.{Normals}
 use Rattle.normals.specs.declared.checked.CheckedNormals.{CheckedNormals}
@@ -172,10 +171,11 @@ module _ (s m : ℤ) (k : StationMonth) (is-s : pos k.station ≡ s) (is_m : pos
       let r : filed' ≡ filed = rows ∙ ap (λ b. cond b (placed key_below (record { key = k; entry = e }) filed) filed) f in
       (no_room (held filed ceiling) s m n good (sym there ∙ w.0) (ltb-false (length filed) ceiling w.1), (λ i. held (r i) (room i)), r)
 
--- rows in rising order stay so, taken or not
-pub put_sorted : (put : Bool) (r : Row StationMonth CheckedNormals) (filed filed' : Rows) → filed' ≡ cond put (placed key_below r filed) filed → rising key_below filed ≡ true → rising key_below filed' ≡ true
-put_sorted true r filed filed' e h = ap (rising key_below) e ∙ rising_placed key_order r filed h
-put_sorted false r filed filed' e h = ap (rising key_below) e ∙ h
+-- ---- an answer whose every error is d
+pub answered : {E D : Type 0} {P : E → D → Type 0} (d : D) (r : Result Unit E) (s : Result Unit D) → MatchResult r (λ x. s ≡ Ok x) (λ e. IsErrAnd s (P e)) → ((e : E) (x : D) → P e x → x ≡ d) → s ≡ cond (is_ok r) (Ok tt) (Err d)
+answered d (Ok tt) s h k = h
+answered d (Err e) (Ok x) h k = absurd h
+answered d (Err e) (Err x) h k = ap Err (k e x h)
 
 -- ---- the lines
 pub lines_same : (lines : Rows) (n : ℕ) → lines ≡ take n lines ++ drop (length (take n lines)) lines
