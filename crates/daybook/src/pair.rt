@@ -13,7 +13,7 @@ const LAST_DAY: i32 = 31;
 const ELEMENTS: usize = 12;
 
 // A checked pair: its day is one from 1 to 31.
-#[derive(Clone, Copy)]
+#[derive(Clone, Copy, PartialEq, Eq)]
 pub struct Pair {
     day: u8,
     element: Element,
