@@ -1,5 +1,5 @@
 -- What a register holds, by its rows, and what a put makes of it. Assumes nothing.
-use Rattle.std.proofs.Common.{◌≡◌, ℕ, suc, ◌+◌, ◌<◌, ◌≤◌, Bool, true, false, cond, not, ◌||◌, ltb, leb, List, [], ◌∷◌, ◌++◌, length, take, drop, ℤ, pos, is_ok, is_some, Some, None, Ok, Err, Option, Result, MatchResult, IsErrAnd, sym, refl, ap, ◌∙◌, ⊎_elim, arith}
+use Rattle.std.proofs.Common.{◌≡◌, ℕ, suc, ◌+◌, ◌<◌, ◌≤◌, Bool, true, false, cond, not, ◌||◌, ltb, leb, List, [], ◌∷◌, ◌++◌, length, take, drop, ℤ, pos, is_some, Some, None, Ok, Err, Option, sym, refl, ap, ◌∙◌, ⊎_elim, arith}
 use mathlib.Core.Path.{fun_ext}
 use Rattle.std.proofs.lemmas.Bool.Decides.{nat_tests}
 use Rattle.std.proofs.lemmas.Int.{ints}
@@ -170,12 +170,6 @@ module _ (s m : ℤ) (k : StationMonth) (is-s : pos k.station ≡ s) (is_m : pos
       let w = or_parts (is_some (found key_below k filed)) (ltb (length filed) ceiling) (sym answer ∙ f) in
       let r : filed' ≡ filed = rows ∙ ap (λ b. cond b (placed key_below (record { key = k; entry = e }) filed) filed) f in
       (no_room (held filed ceiling) s m n good (sym there ∙ w.0) (ltb-false (length filed) ceiling w.1), (λ i. held (r i) (room i)), r)
-
--- ---- an answer whose every error is d
-pub answered : {E D : Type 0} {P : E → D → Type 0} (d : D) (r : Result Unit E) (s : Result Unit D) → MatchResult r (λ x. s ≡ Ok x) (λ e. IsErrAnd s (P e)) → ((e : E) (x : D) → P e x → x ≡ d) → s ≡ cond (is_ok r) (Ok tt) (Err d)
-answered d (Ok tt) s h k = h
-answered d (Err e) (Ok x) h k = absurd h
-answered d (Err e) (Err x) h k = ap Err (k e x h)
 
 -- ---- the lines
 pub lines_same : (lines : Rows) (n : ℕ) → lines ≡ take n lines ++ drop (length (take n lines)) lines

@@ -1,5 +1,5 @@
 -- What a table's lines are once a put or a removal has changed its rows.
-use Rattle.std.proofs.Common.{◌≡◌, ℕ, zero, suc, ◌+◌, ◌-◌, ◌<◌, ◌≤◌, Bool, true, List, [], ◌∷◌, ◌++◌, length, get_or, take, drop, set, Some, None, Ok, Err, Option, Result, MatchResult, sym, refl, ap, ◌∙◌, ap₂, subst, arith, take-append-drop, take-take, length-append, length-take-le, take_at, get_or-take}
+use Rattle.std.proofs.Common.{◌≡◌, cond, is_ok, IsErrAnd, ℕ, zero, suc, ◌+◌, ◌-◌, ◌<◌, ◌≤◌, Bool, true, List, [], ◌∷◌, ◌++◌, length, get_or, take, drop, set, Some, None, Ok, Err, Option, Result, MatchResult, sym, refl, ap, ◌∙◌, ap₂, subst, arith, take-append-drop, take-take, length-append, length-take-le, take_at, get_or-take}
 use Rattle.std.specs.List.{insert, remove}
 use Rattle.std.specs.Result.{result_ok}
 use Rattle.ordered_table.specs.declared.row.Row.{Row}
@@ -135,3 +135,9 @@ place_known {r = Err j} e l h = cc
 pub place_unknown : {r s : Result ℕ ℕ} → r ≡ s → None ≡ result_ok r → (i : ℕ) × (Err i ≡ s)
 place_unknown {r = Ok j} e h = cc
 place_unknown {r = Err j} e h = (j, e)
+
+-- ---- an answer whose every error is d
+pub answered : {E D : Type 0} {P : E → D → Type 0} (d : D) (r : Result Unit E) (s : Result Unit D) → MatchResult r (λ x. s ≡ Ok x) (λ e. IsErrAnd s (P e)) → ((e : E) (x : D) → P e x → x ≡ d) → s ≡ cond (is_ok r) (Ok tt) (Err d)
+answered d (Ok tt) s h k = h
+answered d (Err e) (Ok x) h k = absurd h
+answered d (Err e) (Err x) h k = ap Err (k e x h)

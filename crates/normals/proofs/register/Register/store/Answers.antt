@@ -4,9 +4,10 @@ use Rattle.std.proofs.lemmas.Int.{to_z-of_z}
 use Rattle.std.proofs.lemmas.Result.{err_from_is_err_and}
 use Rattle.station.specs.declared.refusal.Refusal.TheVariants.{Full}
 use Rattle.ordered_table.specs.Contents.{rows, lines, room}
+use Rattle.ordered_table.proofs.OnTables.{answered}
 use Rattle.normals.specs.Register.{Filed, holdings}
 use Rattle.normals.proofs.OnChecks.{record_taken, record_declined}
-use Rattle.normals.proofs.OnRegister.{wrong_record, filed_with, put_taken, put_full, answered, lines_same, lines_back}
+use Rattle.normals.proofs.OnRegister.{wrong_record, filed_with, put_taken, put_full, lines_same, lines_back}
 use Rattle.normals.proofs.register.Register.store.Goals as goal
 
 pub returns-in_err-row : goal.returns-in_err-row
