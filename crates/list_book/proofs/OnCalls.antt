@@ -16,7 +16,7 @@ use Rattle.daybook.proofs.OnCalls.{enter_again, enter_new, enter_full, entered_s
 use Rattle.ordered_table.specs.declared.row.Row.{Row}
 use Rattle.ordered_table.specs.Rows.{found, placed, without, row_of, rows_where}
 use Rattle.ordered_table.specs.Order.{rising}
-use Rattle.ordered_table.proofs.OnOrder.{rising_placed, rising_without, without_none}
+use Rattle.ordered_table.proofs.OnOrder.{without_none}
 use Rattle.ordered_table.proofs.OnEntries.{row_where, no_rows}
 use Rattle.ordered_table.proofs.OnTables.{unchanged}
 use Rattle.list_book.specs.declared.key.PairKey.{PairKey}
@@ -61,10 +61,6 @@ module _ (rows : List (Row PairKey ℤ)) (sorted : rising pair_below rows ≡ tr
       enter_full (grid_of rows) (min room pair_count) d e v there h (sym here ∙ both.0) (omega (arith, filled_rows rows sorted))
 
   -- ---- the rows after an entry, taken or not
-  pub put_sorted : (v : ℤ) (r : Bool) (after : List (Row PairKey ℤ)) → after ≡ cond r (placed pair_below (record { key = k; entry = v }) rows) rows → rising pair_below after ≡ true
-  put_sorted v r after h =
-      subst (λ z. rising pair_below z ≡ true) (sym h) (cond_both r _ rows (λ z. rising pair_below z ≡ true) (λ _. rising_placed pair_order (record { key = k; entry = v }) rows sorted) (λ _. sorted))
-
   pub put_valid : (v : ℤ) (r : Bool) (after : List (Row PairKey ℤ)) → value_refusal e v ≡ None → Valid (grid_of rows) →
       after ≡ cond r (placed pair_below (record { key = k; entry = v }) rows) rows → Valid (grid_of after)
   put_valid v r after h valid a =
@@ -84,9 +80,6 @@ module _ (rows : List (Row PairKey ℤ)) (sorted : rising pair_below rows ≡ tr
 
   pub strike_absent : is_some (found pair_below k rows) ≡ false → strike_refusal (grid_of rows) d e ≡ Some Empty
   strike_absent n = strike_empty (grid_of rows) d e there (sym here ∙ n)
-
-  pub removed_sorted : (after : List (Row PairKey ℤ)) → after ≡ without pair_below k rows → rising pair_below after ≡ true
-  removed_sorted after a = subst (λ z. rising pair_below z ≡ true) (sym a) (rising_without pair_order k rows sorted)
 
   pub removed_valid : (after : List (Row PairKey ℤ)) → Valid (grid_of rows) → after ≡ without pair_below k rows → Valid (grid_of after)
   removed_valid after valid a = subst (λ z. Valid (grid_of z)) (sym a) (subst Valid (sym (grid_without d e k is_d is_e rows sorted)) (valid_with (grid_of rows) d e None valid refl))

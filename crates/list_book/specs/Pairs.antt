@@ -1,5 +1,7 @@
 -- Pairs in order of day and then of element, and the grid that rows of pairs stand for.
 use Rattle.std.specs.Prelude.{Bool, ◌&&◌, ◌||◌, List, ℤ, pos, ◌==◌, nat_lt}
+use Rattle.std.specs.declared.cmp.Ordering.{Ordering}
+use Rattle.std.specs.Ordering.{nat_cmp, on, then_cmp}
 use Rattle.station.specs.Numbers.{same}
 use Rattle.station.specs.Elements.{element_number}
 use Rattle.daybook.specs.Grid.{Grid}
@@ -12,6 +14,10 @@ abbrev pub pair_below : PairKey → PairKey → Bool
 pair_below j k =
     nat_lt j.pair.day k.pair.day
     || (j.pair.day == k.pair.day && nat_lt (element_number j.pair.element) (element_number k.pair.element))
+
+-- how keys compare: by day, and within one day by the element's number
+abbrev pub pair_cmp : PairKey → PairKey → Ordering
+pair_cmp = then_cmp (on (λ k. k.pair.day) nat_cmp) (on (λ k. element_number k.pair.element) nat_cmp)
 
 -- the key's pair is that of the day d and the element with the number e
 abbrev pub is_pair : ℤ → ℤ → PairKey → Bool

@@ -1,9 +1,7 @@
 // The list book: its lines, of which the first hold the filled pairs in order.
-ghost use Rattle.std.specs.Prelude.{◌≡◌, true};
 ghost use Rattle.daybook.specs.Grid.{Valid};
-ghost use Rattle.ordered_table.specs.Order.{rising};
 ghost use Rattle.ordered_table.specs.Contents.{rows};
-ghost use Rattle.list_book.specs.Pairs.{pair_below, grid_of};
+ghost use Rattle.list_book.specs.Pairs.{grid_of};
 
 use crate::key::PairKey;
 use ordered_table::table::Table;
@@ -11,6 +9,5 @@ use ordered_table::table::Table;
 #[derive(Drop)]
 pub struct ListBook<'a> {
     pub(crate) table: Table<'a, PairKey, i32>,
-    ghost sorted: { rising pair_below (rows table) ≡ true },
     ghost valid: { Valid (grid_of (rows table)) },
 }

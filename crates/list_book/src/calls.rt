@@ -59,11 +59,9 @@ impl<'a> Daybook for ListBook<'a> {
     {
         let pair = Pair::check(day, element)?;
         pair.check_value(value)?;
-        if self.table.put(PairKey { pair }, value) {
-            Ok(())
-        } else {
-            Err(Refusal::Full)
-        }
+        self.table
+            .put(PairKey { pair }, value)
+            .map_err(|_| Refusal::Full)
     }
 
     // The row taken out is left on the line that becomes free; the lines behind it are as they were.
@@ -75,10 +73,7 @@ impl<'a> Daybook for ListBook<'a> {
         ensures lender { self.new.table.lines.ghost_name ≡ self.old.table.lines.ghost_name }
     {
         let pair = Pair::check(day, element)?;
-        if self.table.remove(PairKey { pair }) {
-            Ok(())
-        } else {
-            Err(Refusal::Empty)
-        }
+        self.table.remove(PairKey { pair }).ok_or(Refusal::Empty)?;
+        Ok(())
     }
 }

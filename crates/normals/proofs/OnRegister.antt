@@ -13,7 +13,6 @@ use Rattle.ordered_table.specs.declared.row.Row.{Row}
 use Rattle.ordered_table.specs.Rows.{found, placed, entry_where}
 use Rattle.ordered_table.specs.Order.{rising}
 use Rattle.ordered_table.proofs.OnEntries.{found_where, where_placed}
-use Rattle.ordered_table.proofs.OnOrder.{rising_placed}
 use Rattle.ordered_table.proofs.OnTables.{unchanged}
 use Rattle.normals.specs.declared.record.Normals.{Normals}
 use Rattle.normals.specs.declared.checked.CheckedNormals.{CheckedNormals}
@@ -171,11 +170,6 @@ module _ (s m : ℤ) (k : StationMonth) (is-s : pos k.station ≡ s) (is_m : pos
       let w = or_parts (is_some (found key_below k filed)) (ltb (length filed) ceiling) (sym answer ∙ f) in
       let r : filed' ≡ filed = rows ∙ ap (λ b. cond b (placed key_below (record { key = k; entry = e }) filed) filed) f in
       (no_room (held filed ceiling) s m n good (sym there ∙ w.0) (ltb-false (length filed) ceiling w.1), (λ i. held (r i) (room i)), r)
-
--- rows in rising order stay so, taken or not
-pub put_sorted : (put : Bool) (r : Row StationMonth CheckedNormals) (filed filed' : Rows) → filed' ≡ cond put (placed key_below r filed) filed → rising key_below filed ≡ true → rising key_below filed' ≡ true
-put_sorted true r filed filed' e h = ap (rising key_below) e ∙ rising_placed key_order r filed h
-put_sorted false r filed filed' e h = ap (rising key_below) e ∙ h
 
 -- ---- the lines
 pub lines_same : (lines : Rows) (n : ℕ) → lines ≡ take n lines ++ drop (length (take n lines)) lines

@@ -1,59 +1,11 @@
 // Normals that were checked.
-ghost use Rattle.std.specs.Prelude.{◌≡◌, true};
+ghost use Rattle.std.specs.Prelude.{◌≡◌, true, pos};
 ghost use Rattle.station.specs.Numbers.{within};
 ghost use Rattle.station.specs.Refusals.{Answered};
-ghost use Rattle.normals.specs.Normals.{fine, gives, is_two_digits, is_temperature, is_rain, missing_good, period_good, pressures_good, temperatures_good, weather_good, is_good, normals_refusal, blank_normals};
+ghost use Rattle.normals.specs.Normals.{is_two_digits, is_three_digits, is_pressure, is_temperature, is_rain, is_sunshine, missing_good, period_good, pressures_good, temperatures_good, weather_good, is_good, normals_refusal, blank_normals};
 
 use crate::record::{Normals, YearsMissing};
 use station::refusal::Refusal;
-
-// The highest number of two digits: a year, or years missing.
-const TWO_DIGITS: i32 = 99;
-
-// The highest number of three digits: a deviation or a vapour pressure.
-const THREE_DIGITS: i32 = 999;
-
-const LOWEST_PRESSURE: i32 = 1000;
-
-const HIGHEST_PRESSURE: i32 = 10999;
-
-const LOWEST_TEMPERATURE: i32 = -999;
-
-const HIGHEST_TEMPERATURE: i32 = 999;
-
-const MOST_RAIN: i32 = 309969;
-
-const MOST_RAIN_DAYS: i32 = 31;
-
-const MOST_SUNSHINE: i32 = 744;
-
-const PRINTED: i32 = 1;
-
-const NONE_MISSING: YearsMissing = YearsMissing {
-    pressure: 0,
-    temperature: 0,
-    extremes: 0,
-    vapour_pressure: 0,
-    rain: 0,
-    sunshine: 0,
-};
-
-const BLANK: Normals = Normals {
-    first_year: 0,
-    last_year: 0,
-    station_pressure: None,
-    sea_level_pressure: None,
-    mean_temperature: None,
-    highest_temperature: None,
-    lowest_temperature: None,
-    deviation: None,
-    vapour_pressure: None,
-    rain: None,
-    rain_days: None,
-    sunshine: None,
-    missing: NONE_MISSING,
-    print: 0,
-};
 
 // Checked normals: a value exists only where every number is good.
 #[derive(Clone, Copy)]
@@ -77,7 +29,9 @@ impl CheckedNormals {
     pub fn blank() -> CheckedNormals
         ensures { result.normals ≡ blank_normals }
     {
-        CheckedNormals { normals: BLANK }
+        CheckedNormals {
+            normals: Normals::default(),
+        }
     }
 
     pub fn normals(self) -> Normals
@@ -87,37 +41,7 @@ impl CheckedNormals {
     }
 }
 
-fn lies_within(low: i32, high: i32, number: i32) -> bool
-    ensures { result ≡ within low high number }
-{
-    low <= number && number <= high
-}
-
-fn is_two_digits(number: i32) -> bool
-    ensures { result ≡ is_two_digits number }
-{
-    lies_within(0, TWO_DIGITS, number)
-}
-
-// Whether a number lies in its limits, if it is given.
-fn is_fine(low: i32, high: i32, number: Option<i32>) -> bool
-    ensures { result ≡ fine low high number }
-{
-    match number {
-        Some(given) => lies_within(low, high, given),
-        None => true,
-    }
-}
-
-fn gives(value: i32, number: Option<i32>) -> bool
-    ensures { result ≡ gives value number }
-{
-    match number {
-        Some(given) => value == given,
-        None => false,
-    }
-}
-
+#[tactic(auto, unfolding(crate::specs::Normals::is_good))]
 fn is_good(normals: Normals) -> bool
     ensures { result ≡ is_good normals }
 {
@@ -128,56 +52,40 @@ fn is_good(normals: Normals) -> bool
         && is_missing_good(normals.missing)
 }
 
+#[tactic(auto, unfolding(crate::specs::Normals::period_good))]
 fn is_period_good(normals: Normals) -> bool
     ensures { result ≡ period_good normals }
 {
-    is_two_digits(normals.first_year)
-        && is_two_digits(normals.last_year)
-        && lies_within(0, PRINTED, normals.print)
+    is_two_digits(normals.first_year) && is_two_digits(normals.last_year) && is_print(normals.print)
 }
 
+#[tactic(auto, unfolding(crate::specs::Normals::pressures_good))]
 fn are_pressures_good(normals: Normals) -> bool
     ensures { result ≡ pressures_good normals }
 {
-    is_fine(LOWEST_PRESSURE, HIGHEST_PRESSURE, normals.station_pressure)
-        && is_fine(
-            LOWEST_PRESSURE,
-            HIGHEST_PRESSURE,
-            normals.sea_level_pressure,
-        )
-        && is_fine(0, THREE_DIGITS, normals.vapour_pressure)
+    is_pressure(normals.station_pressure)
+        && is_pressure(normals.sea_level_pressure)
+        && is_three_digits(normals.vapour_pressure)
 }
 
+#[tactic(auto, unfolding(crate::specs::Normals::temperatures_good))]
 fn are_temperatures_good(normals: Normals) -> bool
     ensures { result ≡ temperatures_good normals }
 {
     is_temperature(normals.mean_temperature)
         && is_temperature(normals.highest_temperature)
         && is_temperature(normals.lowest_temperature)
-        && is_fine(0, THREE_DIGITS, normals.deviation)
+        && is_three_digits(normals.deviation)
 }
 
-fn is_temperature(number: Option<i32>) -> bool
-    ensures { result ≡ is_temperature number }
-{
-    is_fine(LOWEST_TEMPERATURE, HIGHEST_TEMPERATURE, number)
-}
-
+#[tactic(auto, unfolding(crate::specs::Normals::weather_good))]
 fn is_weather_good(normals: Normals) -> bool
     ensures { result ≡ weather_good normals }
 {
-    is_rain(normals.rain, normals.rain_days) && is_fine(0, MOST_SUNSHINE, normals.sunshine)
+    is_rain(normals.rain, normals.rain_days) && is_sunshine(normals.sunshine)
 }
 
-// Where the rain is given as 0, the days with rain have to be given as 0 too.
-fn is_rain(rain: Option<i32>, days: Option<i32>) -> bool
-    ensures { result ≡ is_rain rain days }
-{
-    is_fine(0, MOST_RAIN, rain)
-        && is_fine(0, MOST_RAIN_DAYS, days)
-        && (!gives(0, rain) || gives(0, days))
-}
-
+#[tactic(auto, unfolding(crate::specs::Normals::missing_good))]
 fn is_missing_good(missing: YearsMissing) -> bool
     ensures { result ≡ missing_good missing }
 {
@@ -187,4 +95,56 @@ fn is_missing_good(missing: YearsMissing) -> bool
         && is_two_digits(missing.vapour_pressure)
         && is_two_digits(missing.rain)
         && is_two_digits(missing.sunshine)
+}
+
+// A year of its century, or years missing.
+#[tactic(auto, unfolding(crate::specs::Normals::is_two_digits))]
+fn is_two_digits(number: i32) -> bool
+    ensures { result ≡ is_two_digits number }
+{
+    (0..=99).contains(&number)
+}
+
+// 1: printed, 0: not.
+fn is_print(number: i32) -> bool
+    ensures { result ≡ within (pos 0) (pos 1) number }
+{
+    (0..=1).contains(&number)
+}
+
+// A deviation or a vapour pressure.
+fn is_three_digits(number: Option<i32>) -> bool
+    ensures { result ≡ is_three_digits number }
+{
+    number.is_none_or(|given| (0..=999).contains(&given))
+}
+
+// In 0.1 hPa.
+fn is_pressure(number: Option<i32>) -> bool
+    ensures { result ≡ is_pressure number }
+{
+    number.is_none_or(|given| (1000..=10999).contains(&given))
+}
+
+// In 0.1 °C.
+fn is_temperature(number: Option<i32>) -> bool
+    ensures { result ≡ is_temperature number }
+{
+    number.is_none_or(|given| (-999..=999).contains(&given))
+}
+
+// The rain in 0.1 mm. Where it is given as 0, the days with rain have to be given as 0 too.
+fn is_rain(rain: Option<i32>, days: Option<i32>) -> bool
+    ensures { result ≡ is_rain rain days }
+{
+    rain.is_none_or(|given| (0..=309969).contains(&given))
+        && days.is_none_or(|given| (0..=31).contains(&given))
+        && (rain != Some(0) || days == Some(0))
+}
+
+// In hours.
+fn is_sunshine(number: Option<i32>) -> bool
+    ensures { result ≡ is_sunshine number }
+{
+    number.is_none_or(|given| (0..=744).contains(&given))
 }

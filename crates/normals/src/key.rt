@@ -10,8 +10,8 @@ use station::sheet::is_station;
 
 const FIRST_STATION: u32 = 1000;
 
-// A checked key: one exists only within the limits.
-#[derive(Clone, Copy)]
+// A checked key: one exists only within the limits. Keys go by station, then month.
+#[derive(Clone, Copy, PartialEq, Eq, PartialOrd, Ord)]
 pub struct StationMonth {
     station: u32,
     month: u8,

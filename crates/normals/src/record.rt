@@ -1,7 +1,7 @@
 // The climate normals of a station and month as they are handed in: numbers that nobody has checked.
 
 // Of how many years of the period the observations are missing.
-#[derive(Clone, Copy)]
+#[derive(Clone, Copy, Default)]
 pub struct YearsMissing {
     pub pressure: i32,
     pub temperature: i32,
@@ -11,7 +11,7 @@ pub struct YearsMissing {
     pub sunshine: i32,
 }
 
-#[derive(Clone, Copy)]
+#[derive(Clone, Copy, Default)]
 pub struct Normals {
     // the last two digits of the period's first and last year
     pub first_year: i32,

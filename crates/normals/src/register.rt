@@ -1,9 +1,7 @@
 // A register of climate normals, a record for each station and month, over lines that the caller lends.
 ghost use Rattle.std.specs.Prelude.{◌≡◌, true, false, ◌++◌, length, drop, pos, is_ok};
 ghost use Rattle.station.specs.Refusals.{Answered, unless};
-ghost use Rattle.ordered_table.specs.Order.{rising};
 ghost use Rattle.ordered_table.specs.Contents.{rows, lines as all_lines, room};
-ghost use Rattle.normals.specs.Order.{key_below};
 ghost use Rattle.normals.specs.Register.{Blank, Filed, holdings, nothing_held, unchecked, looked_up, record_refusal, store_refusal, stored};
 
 use crate::checked::CheckedNormals;
@@ -16,7 +14,6 @@ use station::refusal::Refusal;
 #[derive(Drop)]
 pub struct Register<'a> {
     table: Table<'a, StationMonth, CheckedNormals>,
-    ghost sorted: { rising key_below (rows table) ≡ true },
 }
 
 impl<'a> Register<'a> {
@@ -65,11 +62,9 @@ impl<'a> Register<'a> {
         ensures lender { self.new.table.lines.ghost_name ≡ self.old.table.lines.ghost_name }
     {
         let row = check_row(station, month, normals)?;
-        if self.table.put(row.key, row.entry) {
-            Ok(())
-        } else {
-            Err(Refusal::Full)
-        }
+        self.table
+            .put(row.key, row.entry)
+            .map_err(|_| Refusal::Full)
     }
 }
 

@@ -1,27 +1,15 @@
-// Where a key stands among the first `used` lines, or where it would.
-ghost use Rattle.std.specs.Prelude.{◌≡◌, ◌<◌, ◌≤◌, length, take, MatchResult};
+// Where a key stands among rows in rising order, or where it would.
+ghost use Rattle.std.specs.Prelude.{◌≡◌, ◌<◌, ◌≤◌, true, length, MatchResult};
 ghost use Rattle.ordered_table.specs.Rows.{sought};
+ghost use Rattle.ordered_table.specs.Order.{rising};
 
 use crate::key::Key;
 use crate::row::Row;
 
-pub(crate) fn seek<K: Key, E: Copy>(
-    lines: &[Row<K, E>],
-    used: usize,
-    key: K,
-) -> Result<usize, usize>
-    requires { used ≤ length lines.now }
-    ensures is { result ≡ sought K.below key (take used lines.now) }
-    ensures inside { MatchResult result (λ i. i < used) (λ i. i ≤ used) }
+pub(crate) fn seek<K: Key, E>(rows: &[Row<K, E>], key: K) -> Result<usize, usize>
+    requires { rising K.below rows.now ≡ true }
+    ensures is { result ≡ sought K.below key rows.now }
+    ensures inside { MatchResult result (λ i. i < length rows.now) (λ i. i ≤ length rows.now) }
 {
-    for i in 0..used {
-        let row = lines[i];
-        if !row.key.before(&key) {
-            if key.before(&row.key) {
-                return Err(i);
-            }
-            return Ok(i);
-        }
-    }
-    Err(used)
+    rows.binary_search_by(|row| row.key.cmp(&key))
 }

@@ -22,5 +22,5 @@ returns c =
     let fe = c.ranges.element in
     let h = simp to_z-of_z at c.in_ok-pair.ensures in
     let pair = pair_taken c.args.day c.args.element c.in_ok-pair.pair h in
-    let k = found_grid _ _ (record { pair = c.in_ok-pair.pair }) pair.1 pair.2 (rows c.args.self.now.table) c.args.self.now.sorted in
+    let k = found_grid _ _ (record { pair = c.in_ok-pair.pair }) pair.1 pair.2 (rows c.args.self.now.table) c.args.self.now.table.rises in
     record { answer = ap Ok (c.find.ensures.answer ∙ k) ∙ sym (look_found _ _ _ pair.0); same = refl }

@@ -1,18 +1,19 @@
-use Rattle.std.proofs.Common.{◌≡◌, min, Some, None, sym, refl, ap, ◌∙◌}
+use Rattle.std.proofs.Common.{◌≡◌, min, true, false, cond, Some, None, Ok, Err, is_ok, sym, refl, ap, ◌∙◌, ⊎_elim, rules}
 use Rattle.std.proofs.lemmas.Int.{to_z-of_z}
 use Rattle.std.proofs.lemmas.Result.{err_from_is_err_and}
-use Rattle.std.proofs.lemmas.Bool.{cond-false}
+use Rattle.std.proofs.lemmas.Bool.{cases_Bool, cond-false}
+use Rattle.station.specs.declared.refusal.Refusal.TheVariants.{Full}
 use Rattle.station.proofs.OnRefusals.{unless_ok, unless_err}
 use Rattle.daybook.specs.Grid.{pair_count}
 use Rattle.daybook.specs.Calls.{value_refusal}
 use Rattle.daybook.proofs.OnPairs.{pair_taken, pair_declined}
 use Rattle.daybook.proofs.OnCalls.{enter_declined, enter_value, entered_same}
 use Rattle.ordered_table.specs.Contents.{rows, room}
-use Rattle.ordered_table.proofs.OnTables.{unchanged}
+use Rattle.ordered_table.proofs.OnTables.{answered, unchanged}
 use Rattle.list_book.specs.declared.key.PairKey.{PairKey}
 use Rattle.list_book.specs.Pairs.{grid_of}
 use Rattle.list_book.specs.Book.{book_grid, book_ceiling}
-use Rattle.list_book.proofs.OnCalls.{enter_room, enter_no_room, put_sorted, put_valid, put_entered}
+use Rattle.list_book.proofs.OnCalls.{enter_room, enter_no_room, put_valid, put_entered}
 use Rattle.list_book.proofs.calls.ListBookDaybook.enter.Goals as goal
 
 pub returns-in_err-pair : goal.returns-in_err-pair
@@ -50,13 +51,11 @@ invariant_of-self c =
     let value : value_refusal c.args.element c.args.value ≡ None = rw (← pair.2) (unless_ok _ _ _ v) in
     let b = c.args.self.now in
     let k : PairKey = record { pair = c.in_ok-pair.pair } in
-    let f = simp to_z-of_z at c.put.ensures.rows in record {
-      sorted = put_sorted (rows b.table) b.sorted _ _ k pair.1 pair.2 c.args.value c.put.result (rows c.put.new.self) f;
-      valid = put_valid (rows b.table) b.sorted _ _ k pair.1 pair.2 c.args.value c.put.result (rows c.put.new.self) value b.valid f;
-    }
+    let f = simp to_z-of_z at c.put.ensures.rows in
+    record { valid = put_valid (rows b.table) b.table.rises _ _ k pair.1 pair.2 c.args.value (is_ok c.put.result) (rows c.put.new.self) value b.valid f }
 
-pub returns-then-put : goal.returns-then-put
-returns-then-put c =
+pub returns : goal.returns
+returns c =
     let fd = c.ranges.day in
     let fe = c.ranges.element in
     let fv = c.ranges.value in
@@ -67,32 +66,25 @@ returns-then-put c =
     let b = c.args.self.now in
     let k : PairKey = record { pair = c.in_ok-pair.pair } in
     let f = simp to_z-of_z at c.put.ensures.rows in
-    let free = enter_room (rows b.table) b.sorted _ _ k pair.1 pair.2 c.args.value (room b.table) value (sym c.put.ensures.answer ∙ c.if-put.true) in
+    let is = answered Full c.put.result c.map_err.result c.map_err.ensures.cases (λ e x p. search rules) in
+    ⊎_elim
+    (λ (t : is_ok c.put.result ≡ true).
+    let free = enter_room (rows b.table) b.table.rises _ _ k pair.1 pair.2 c.args.value (room b.table) value (sym c.put.ensures.answer ∙ t) in
     record {
-      answer = rw free;
-      after = put_entered (rows b.table) b.sorted _ _ k pair.1 pair.2 c.args.value _ c.put.result (rows c.put.new.self) f c.if-put.true free;
+      answer = is ∙ ap (λ z. cond z (Ok tt) (Err Full)) t ∙ rw free;
+      after = put_entered (rows b.table) b.table.rises _ _ k pair.1 pair.2 c.args.value _ (is_ok c.put.result) (rows c.put.new.self) f t free;
       ceiling = ap (λ n. min n pair_count) c.put.ensures.room;
       lines = c.put.ensures.lines;
       lender = c.put.ensures.lender;
-    }
-
-pub returns-else-put : goal.returns-else-put
-returns-else-put c =
-    let fd = c.ranges.day in
-    let fe = c.ranges.element in
-    let fv = c.ranges.value in
-    let h = simp to_z-of_z at c.in_ok-pair.ensures in
-    let pair = pair_taken c.args.day c.args.element c.in_ok-pair.pair h in
-    let v = simp to_z-of_z at c.in_ok-check_value.ensures in
-    let value : value_refusal c.args.element c.args.value ≡ None = rw (← pair.2) (unless_ok _ _ _ v) in
-    let b = c.args.self.now in
-    let k : PairKey = record { pair = c.in_ok-pair.pair } in
-    let full = enter_no_room (rows b.table) b.sorted _ _ k pair.1 pair.2 c.args.value (room b.table) value (sym c.put.ensures.answer ∙ c.if-put.false) in
-    let same : rows c.put.new.self ≡ rows b.table = c.put.ensures.rows ∙ cond-false c.put.result _ _ c.if-put.false in
+    })
+    (λ (n : is_ok c.put.result ≡ false).
+    let full = enter_no_room (rows b.table) b.table.rises _ _ k pair.1 pair.2 c.args.value (room b.table) value (sym c.put.ensures.answer ∙ n) in
+    let same : rows c.put.new.self ≡ rows b.table = c.put.ensures.rows ∙ cond-false (is_ok c.put.result) _ _ n in
     record {
-      answer = rw full;
+      answer = is ∙ ap (λ z. cond z (Ok tt) (Err Full)) n ∙ rw full;
       after = ap grid_of same ∙ sym (entered_same _ _ _ _ _ _ full);
       ceiling = ap (λ n. min n pair_count) c.put.ensures.room;
       lines = c.put.ensures.lines;
       lender = c.put.ensures.lender;
-    }
+    })
+    (cases_Bool (is_ok c.put.result))

@@ -24,4 +24,4 @@ returns c =
     let k = c.in_ok-wanted.wanted in
     let key = key_taken c.args.station c.args.month k h in
     let table = c.args.self.now.table in
-    record { answer = look_found _ _ k key.1 key.2 (rows table) (room table) c.find.result c.args.self.now.sorted key.0 c.find.ensures.answer; same = refl }
+    record { answer = look_found _ _ k key.1 key.2 (rows table) (room table) c.find.result table.rises key.0 c.find.ensures.answer; same = refl }

@@ -1,10 +1,13 @@
-use Rattle.std.proofs.Common.{sym, refl, subst, arith}
+use Rattle.std.proofs.Common.{◌≡◌, true, false, cond, Ok, Err, is_ok, sym, refl, ap, ◌∙◌, subst, arith, rules, ⊎_elim}
+use Rattle.std.proofs.lemmas.Bool.{cases_Bool}
 use Rattle.std.proofs.lemmas.Int.{to_z-of_z}
 use Rattle.std.proofs.lemmas.Result.{err_from_is_err_and}
+use Rattle.station.specs.declared.refusal.Refusal.TheVariants.{Full}
 use Rattle.ordered_table.specs.Contents.{rows, lines, room}
+use Rattle.ordered_table.proofs.OnTables.{answered}
 use Rattle.normals.specs.Register.{Filed, holdings}
 use Rattle.normals.proofs.OnChecks.{record_taken, record_declined}
-use Rattle.normals.proofs.OnRegister.{wrong_record, filed_with, put_taken, put_full, put_sorted, lines_same, lines_back}
+use Rattle.normals.proofs.OnRegister.{wrong_record, filed_with, put_taken, put_full, lines_same, lines_back}
 use Rattle.normals.proofs.register.Register.store.Goals as goal
 
 pub returns-in_err-row : goal.returns-in_err-row
@@ -24,12 +27,8 @@ returns-in_err-row c =
       lender = refl;
     }
 
-pub invariant_of-self : goal.invariant_of-self
-invariant_of-self c =
-    record { sorted = put_sorted c.put.result _ (rows c.args.self.now.table) (rows c.put.new.self) c.put.ensures.rows c.args.self.now.sorted }
-
-pub returns-then-put : goal.returns-then-put
-returns-then-put c =
+pub returns : goal.returns
+returns c =
     let fs = c.ranges.station in
     let fm = c.ranges.month in
     let h = simp to_z-of_z at c.in_ok-row.ensures in
@@ -37,35 +36,26 @@ returns-then-put c =
     let good = record_taken c.args.station c.args.month c.args.normals row h in
     let table = c.args.self.now.table in
     let after = c.put.new.self in
-    let taken =
-    put_taken _ _ row.key good.1 good.2 _ row.entry good.3 good.0 (rows table) (rows after) (room table) (room after) c.put.result c.args.self.now.sorted
-    c.put.ensures.answer c.put.ensures.rows c.put.ensures.room c.if-put.true in
+    let is = answered Full c.put.result c.map_err.result c.map_err.ensures.cases (λ e x p. search rules) in
+    ⊎_elim
+    (λ (t : is_ok c.put.result ≡ true).
+    let taken = put_taken _ _ row.key good.1 good.2 _ row.entry good.3 good.0 (rows table) (rows after) (room table) (room after) (is_ok c.put.result) table.rises c.put.ensures.answer c.put.ensures.rows c.put.ensures.room t in
     record {
-      answer = rw taken.0;
+      answer = is ∙ ap (λ b. cond b (Ok tt) (Err Full)) t ∙ rw taken.0;
       after = rw taken.0 taken.1;
       filed = λ _. subst (Filed c.args.station c.args.month c.args.normals (holdings table)) (sym taken.1) (filed_with (holdings table) _ _ _ good.0);
       lines = c.put.ensures.lines;
-      declined = λ f. absurd (grind arith);
+      declined = λ f. absurd (grind (arith, c.map_err.ensures.variant));
       lender = c.put.ensures.lender;
-    }
-
-pub returns-else-put : goal.returns-else-put
-returns-else-put c =
-    let fs = c.ranges.station in
-    let fm = c.ranges.month in
-    let h = simp to_z-of_z at c.in_ok-row.ensures in
-    let row = c.in_ok-row.row in
-    let good = record_taken c.args.station c.args.month c.args.normals row h in
-    let table = c.args.self.now.table in
-    let after = c.put.new.self in
-    let full =
-    put_full _ _ row.key good.1 good.2 _ row.entry good.3 good.0 (rows table) (rows after) (room table) (room after) c.put.result c.args.self.now.sorted
-    c.put.ensures.answer c.put.ensures.rows c.put.ensures.room c.if-put.false in
+    })
+    (λ (f : is_ok c.put.result ≡ false).
+    let full = put_full _ _ row.key good.1 good.2 _ row.entry good.3 good.0 (rows table) (rows after) (room table) (room after) (is_ok c.put.result) table.rises c.put.ensures.answer c.put.ensures.rows c.put.ensures.room f in
     record {
-      answer = rw full.0;
+      answer = is ∙ ap (λ b. cond b (Ok tt) (Err Full)) f ∙ rw full.0;
       after = rw full.0 full.1;
-      filed = λ t. absurd (grind arith);
+      filed = λ t. absurd (grind (arith, c.map_err.ensures.variant));
       lines = c.put.ensures.lines;
       declined = λ _. lines_back (lines table) (lines after) table.used (rows after) c.put.ensures.lines full.2;
       lender = c.put.ensures.lender;
-    }
+    })
+    (cases_Bool (is_ok c.put.result))

@@ -1,20 +1,20 @@
-use Rattle.std.proofs.Common.{◌≡◌, take, sym, ap, ◌∙◌, subst, arith}
-use Rattle.ordered_table.specs.Order.{FoundAt}
-use Rattle.ordered_table.proofs.OnSought.{held_le, take_held}
-use Rattle.ordered_table.proofs.OnOrder.{Order}
-use Rattle.ordered_table.proofs.OnEntries.{found_at}
+use Rattle.std.proofs.Common.{◌∙◌}
+use Rattle.ordered_table.proofs.OnOrder.{order_of}
+use Rattle.ordered_table.proofs.OnTables.{found_there, found_none, found_entry, place_known, place_unknown}
 use Rattle.ordered_table.proofs.table.Table.find.Goals as goal
 
-pub find_in-requires : goal.find_in-requires
-find_in-requires g c = omega (arith, held_le c.args.self.now.used c.args.self.now.lines.now, c.len-used.ensures)
+pub returns-in_err-place : goal.returns-in_err-place
+returns-in_err-place g c =
+    let t = c.args.self.now in
+    let o = order_of g.met.K.Ord.total g.met.K.Key.compares g.met.K.Key.apart in
+    let at = place_unknown c.seek.ensures.is c.in_err-place.ensures.value in
+    let is = c.from_residual.ensures ∙ found_none o c.args.key t.lines.now t.used t.within t.rises c.rows-rows.result.now c.rows-rows.ensures at.0 at.1 in
+    record { answer = is; map = found_entry o c.args.key t.lines.now t.used t.within t.rises _ c.rows-rows.ensures _ is }
 
 pub returns : goal.returns
 returns g c =
-    let q : take c.len-used.result c.args.self.now.lines.now ≡ take c.args.self.now.used c.args.self.now.lines.now =
-    ap (λ n. take n c.args.self.now.lines.now) c.len-used.ensures ∙ take_held c.args.self.now.used c.args.self.now.lines.now in
-    let f = rw q at c.find_in.ensures in
-    let o : Order g.K.Key.below = record { itself = g.met.K.Key.itself; chain = g.met.K.Key.chain; apart = g.met.K.Key.apart } in
-    record {
-      answer = f;
-      map = λ h. subst (FoundAt g.K.Key.below c.args.key (take c.args.self.now.used c.args.self.now.lines.now)) (sym f) (found_at o c.args.key (take c.args.self.now.used c.args.self.now.lines.now) h);
-    }
+    let t = c.args.self.now in
+    let o = order_of g.met.K.Ord.total g.met.K.Key.compares g.met.K.Key.apart in
+    let at = place_known c.seek.ensures.is c.seek.ensures.inside c.in_ok-place.ensures.value in
+    let is = found_there o c.args.key t.lines.now t.used t.within t.rises c.rows-rows.result.now c.rows-rows.ensures c.in_ok-place.place c.index-rows-place.result at.0 in
+    record { answer = is; map = found_entry o c.args.key t.lines.now t.used t.within t.rises c.rows-rows.result.now c.rows-rows.ensures _ is }

@@ -1,41 +1,50 @@
-use Rattle.std.proofs.Common.{◌≡◌, length, take, Some, sym, refl, ap, ◌∙◌, subst, arith}
-use Rattle.ordered_table.specs.Order.{MapSet}
-use Rattle.ordered_table.proofs.OnSought.{held_le, take_held}
-use Rattle.ordered_table.proofs.OnOrder.{Order, set_placed}
-use Rattle.ordered_table.proofs.OnTables.{first_rows, behind_rows, unchanged}
+use Rattle.std.proofs.Common.{◌≡◌, true, false, ltb, length, take, refl, ap, ◌∙◌, rules, arith, length-take-le}
+use Rattle.std.proofs.lemmas.Bool.Decides.{nat_tests}
+use Rattle.ordered_table.specs.Rows.{sought}
+use Rattle.ordered_table.proofs.OnOrder.{order_of}
+use Rattle.ordered_table.proofs.OnSought.{at_err, ok_found}
+use Rattle.ordered_table.proofs.OnTables.{put_over, put_new}
 use Rattle.ordered_table.proofs.table.Table.put.Goals as goal
 
-pub put_in-requires : goal.put_in-requires
-put_in-requires g c = omega (arith, held_le c.args.self.now.used c.args.self.now.lines.now, c.len-used.ensures)
+-- over the row of its key
+pub invariant_of-self : goal.invariant_of-self
+invariant_of-self g c =
+    let t = c.args.self.now in
+    let o = order_of g.met.K.Ord.total g.met.K.Key.compares g.met.K.Key.apart in
+    let p = put_over o c.args.key t.lines.now t.used t.within t.rises c.rows.result.now c.rows.ensures c.in-Ok.place c.args.entry c.in-Ok.ensures.is c.in-Ok.ensures.inside in
+    record { within = p.within; rises = p.rises }
 
-pub returns-in-Some : goal.returns-in-Some
-returns-in-Some g c =
-    let e = c.len-used.ensures in
-    let q : take c.len-used.result c.args.self.now.lines.now ≡ take c.args.self.now.used c.args.self.now.lines.now =
-    ap (λ n. take n c.args.self.now.lines.now) e ∙ take_held c.args.self.now.used c.args.self.now.lines.now in
-    let a = rw q at c.in-Some.ensures.after in
-    let r = first_rows c.put_in.new.lines _ _ c.in-Some.n a.0 a.1 in
-    let o : Order g.K.Key.below = record { itself = g.met.K.Key.itself; chain = g.met.K.Key.chain; apart = g.met.K.Key.apart } in
-    record {
-      answer = rw (q, e) at c.in-Some.ensures.answer;
-      rows = r;
-      lines = behind_rows c.args.self.now.lines.now c.put_in.new.lines _ c.in-Some.n a.0 a.1;
-      room = c.put_in.auto.lines;
-      lender = refl;
-      map = λ h _. subst (MapSet g.K.Key.below c.args.key (Some c.args.entry) (take c.args.self.now.used c.args.self.now.lines.now)) (sym r) (set_placed o c.args.key c.args.entry (take c.args.self.now.used c.args.self.now.lines.now) h);
-    }
+pub returns-in-Ok : goal.returns-in-Ok
+returns-in-Ok g c =
+    let t = c.args.self.now in
+    let o = order_of g.met.K.Ord.total g.met.K.Key.compares g.met.K.Key.apart in
+    let p = put_over o c.args.key t.lines.now t.used t.within t.rises c.rows.result.now c.rows.ensures c.in-Ok.place c.args.entry c.in-Ok.ensures.is c.in-Ok.ensures.inside in
+    let f = ok_found g.K.Key.below c.args.key (take t.used t.lines.now) c.in-Ok.place (c.in-Ok.ensures.is ∙ ap (sought g.K.Key.below c.args.key) c.rows.ensures) in
+    record { answer = rw f refl; rows = p.rows; lines = p.lines; room = search rules; lender = refl; map = λ _. p.map }
 
-pub returns-in-None : goal.returns-in-None
-returns-in-None g c =
-    let e = c.len-used.ensures in
-    let q : take c.len-used.result c.args.self.now.lines.now ≡ take c.args.self.now.used c.args.self.now.lines.now =
-    ap (λ n. take n c.args.self.now.lines.now) e ∙ take_held c.args.self.now.used c.args.self.now.lines.now in
-    let m = c.in-None.ensures.after in
-    record {
-      answer = rw (q, e) at c.in-None.ensures.answer;
-      rows = ap (take c.args.self.now.used) m;
-      lines = unchanged c.args.self.now.lines.now c.put_in.new.lines c.args.self.now.used m;
-      room = ap length m;
-      lender = refl;
-      map = λ h f. absurd (grind arith);
-    }
+-- no line is free
+pub returns-then-self-room-clause-answer : goal.returns-then-self-room-clause-answer
+returns-then-self-room-clause-answer g c =
+    let t = c.args.self.now in
+    let s = at_err g.K.Key.below c.args.key (take t.used t.lines.now) c.in-Err.place (c.in-Err.ensures.is ∙ ap (sought g.K.Key.below c.args.key) c.rows.ensures) in
+    let n = length-take-le t.used t.lines.now t.within in
+    let full : ltb (length (take t.used t.lines.now)) (length t.lines.now) ≡ false = grind (arith, nat_tests, c.if-self-room.true, c.room.ensures) in
+    rw (s.1, full) refl
+
+-- a new row
+pub invariant_of-self-in-Err : goal.invariant_of-self-in-Err
+invariant_of-self-in-Err g c =
+    let t = c.args.self.now in
+    let o = order_of g.met.K.Ord.total g.met.K.Key.compares g.met.K.Key.apart in
+    let p = put_new o c.args.key t.lines.now t.used t.within t.rises c.rows.result.now c.rows.ensures c.in-Err.place c.args.entry _ c.in-Err.ensures.is c.in-Err.ensures.inside c.insert_at.ensures in
+    record { within = p.within; rises = p.rises }
+
+pub returns-else-self-room : goal.returns-else-self-room
+returns-else-self-room g c =
+    let t = c.args.self.now in
+    let o = order_of g.met.K.Ord.total g.met.K.Key.compares g.met.K.Key.apart in
+    let p = put_new o c.args.key t.lines.now t.used t.within t.rises c.rows.result.now c.rows.ensures c.in-Err.place c.args.entry _ c.in-Err.ensures.is c.in-Err.ensures.inside c.insert_at.ensures in
+    let s = at_err g.K.Key.below c.args.key (take t.used t.lines.now) c.in-Err.place (c.in-Err.ensures.is ∙ ap (sought g.K.Key.below c.args.key) c.rows.ensures) in
+    let n = length-take-le t.used t.lines.now t.within in
+    let free : ltb (length (take t.used t.lines.now)) (length t.lines.now) ≡ true = grind (arith, nat_tests, c.if-self-room.false, c.room.ensures) in
+    record { answer = rw (s.1, free) refl; rows = p.rows; lines = p.lines; room = search rules; lender = refl; map = λ _. p.map }

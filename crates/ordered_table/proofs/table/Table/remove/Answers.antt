@@ -1,45 +1,43 @@
-use Rattle.std.proofs.Common.{◌≡◌, ◌++◌, length, take, drop, None, sym, refl, ap, ◌∙◌, subst, ap₂, arith}
-use Rattle.ordered_table.specs.Rows.{row_of}
-use Rattle.ordered_table.specs.Order.{MapSet}
-use Rattle.ordered_table.proofs.OnSought.{held_le, take_held}
-use Rattle.ordered_table.proofs.OnOrder.{Order, set_without}
-use Rattle.ordered_table.proofs.OnTables.{first_rows}
+use Rattle.std.proofs.Common.{◌∙◌, refl, rules, arith}
+use Rattle.ordered_table.proofs.OnOrder.{order_of}
+use Rattle.ordered_table.proofs.OnTables.{removed_there, removed_none, found_on_line, found_none, fewer_rise, place_known, place_unknown}
 use Rattle.ordered_table.proofs.table.Table.remove.Goals as goal
 
-pub remove_in-requires : goal.remove_in-requires
-remove_in-requires g c = omega (arith, held_le c.args.self.now.used c.args.self.now.lines.now, c.len-used.ensures)
+-- the key has no row
+pub returns-in_err-place : goal.returns-in_err-place
+returns-in_err-place g c =
+    let t = c.args.self.now in
+    let o = order_of g.met.K.Ord.total g.met.K.Key.compares g.met.K.Key.apart in
+    let at = place_unknown c.seek.ensures.is c.in_err-place.ensures.value in
+    let p = removed_none o c.args.key t.lines.now t.used t.within t.rises c.rows.result.now c.rows.ensures at.0 at.1 in
+    record { answer = c.from_residual.ensures ∙ found_none o c.args.key t.lines.now t.used t.within t.rises c.rows.result.now c.rows.ensures at.0 at.1; rows = p.rows; lines = p.lines; room = refl; lender = refl; map = p.map }
 
-pub returns-in-Some : goal.returns-in-Some
-returns-in-Some g c =
-    let e = c.len-used.ensures in
-    let q : take c.len-used.result c.args.self.now.lines.now ≡ take c.args.self.now.used c.args.self.now.lines.now =
-    ap (λ n. take n c.args.self.now.lines.now) e ∙ take_held c.args.self.now.used c.args.self.now.lines.now in
-    let a = rw q at c.in-Some.ensures.after in
-    let r = first_rows c.remove_in.new.lines _ _ c.in-Some.n (rw q at c.in-Some.ensures.left) a in
-    let o : Order g.K.Key.below = record { itself = g.met.K.Key.itself; chain = g.met.K.Key.chain; apart = g.met.K.Key.apart } in
-    record {
-      answer = rw q at c.in-Some.ensures.answer;
-      rows = r;
-      lines = a ∙ ap₂ (λ z k. z ++ (row_of g.K.Key.below c.args.key (take c.args.self.now.used c.args.self.now.lines.now) ++ drop k c.args.self.now.lines.now)) (sym r) e;
-      room = c.remove_in.auto.lines;
-      lender = refl;
-      map = λ h. subst (MapSet g.K.Key.below c.args.key None (take c.args.self.now.used c.args.self.now.lines.now)) (sym r) (set_without o c.args.key (take c.args.self.now.used c.args.self.now.lines.now) h);
-    }
+-- its row is taken out
+pub invariant_of-self : goal.invariant_of-self
+invariant_of-self g c =
+    let t = c.args.self.now in
+    let o = order_of g.met.K.Ord.total g.met.K.Key.compares g.met.K.Key.apart in
+    record { within = omega (arith, t.within); rises = fewer_rise o c.args.key t.lines.now t.used t.within t.rises c.rows.result.now c.rows.ensures _ (omega arith) }
 
-pub returns-in-None : goal.returns-in-None
-returns-in-None g c =
-    let e = c.len-used.ensures in
-    let q : take c.len-used.result c.args.self.now.lines.now ≡ take c.args.self.now.used c.args.self.now.lines.now =
-    ap (λ n. take n c.args.self.now.lines.now) e ∙ take_held c.args.self.now.used c.args.self.now.lines.now in
-    let a = rw q at c.in-None.ensures.after in
-    let m = c.in-None.ensures.left.0 in
-    let r = ap (take c.args.self.now.used) m ∙ sym (rw q at c.in-None.ensures.left.1) in
-    let o : Order g.K.Key.below = record { itself = g.met.K.Key.itself; chain = g.met.K.Key.chain; apart = g.met.K.Key.apart } in
+pub invariant_of-self-2 : goal.invariant_of-self-2
+invariant_of-self-2 g c =
+    let t = c.args.self.now in
+    let o = order_of g.met.K.Ord.total g.met.K.Key.compares g.met.K.Key.apart in
+    let at = place_known c.seek.ensures.is c.seek.ensures.inside c.in_ok-place.ensures.value in
+    let p = removed_there o c.args.key t.lines.now t.used t.within t.rises c.rows.result.now c.rows.ensures c.in_ok-place.place c.remove_at.new.lines at.0 at.1 c.remove_at.ensures in
+    record { within = p.within; rises = p.rises }
+
+pub returns : goal.returns
+returns g c =
+    let t = c.args.self.now in
+    let o = order_of g.met.K.Ord.total g.met.K.Key.compares g.met.K.Key.apart in
+    let at = place_known c.seek.ensures.is c.seek.ensures.inside c.in_ok-place.ensures.value in
+    let p = removed_there o c.args.key t.lines.now t.used t.within t.rises c.rows.result.now c.rows.ensures c.in_ok-place.place c.remove_at.new.lines at.0 at.1 c.remove_at.ensures in
     record {
-      answer = rw q at c.in-None.ensures.answer;
-      rows = r;
-      lines = a ∙ ap₂ (λ z k. z ++ (row_of g.K.Key.below c.args.key (take c.args.self.now.used c.args.self.now.lines.now) ++ drop k c.args.self.now.lines.now)) (sym r) e;
-      room = ap length m;
+      answer = found_on_line o c.args.key t.lines.now t.used t.within t.rises c.rows.result.now c.rows.ensures c.in_ok-place.place c.index-self-place.result at.0 at.1;
+      rows = p.rows;
+      lines = p.lines;
+      room = search rules;
       lender = refl;
-      map = λ h. subst (MapSet g.K.Key.below c.args.key None (take c.args.self.now.used c.args.self.now.lines.now)) (sym r) (set_without o c.args.key (take c.args.self.now.used c.args.self.now.lines.now) h);
+      map = p.map;
     }
