@@ -9,6 +9,7 @@ use daybook::reading::{days_held, reading};
 use file_values::day_sheet::DaySheet;
 use file_values::enter::enter_file;
 use house_file::check::check_file;
+use house_file::lines::Lines;
 use station::element::Element;
 use station::sheet::Sheet;
 use std::alloc::{AllocError, Global};
@@ -53,10 +54,10 @@ fn file_of(heap: Global, line: &[u8]) -> Result<Vec<u8>, AllocError> {
 }
 
 fn show_values(rt: &HostRuntime, source: &DaySheet<'_>) -> io::Result<()> {
-    for passed in 0..MOST_DAYS {
+    for day in 1..=MOST_DAYS {
         for element in Element::ALL {
-            if let Some(value) = reading(source, passed + 1, element) {
-                print!(rt; " {}/{}={}", passed + 1, element.number(), value)?;
+            if let Some(value) = reading(source, day, element) {
+                print!(rt; " {day}/{}={value}", element.number())?;
             }
         }
     }
@@ -87,12 +88,7 @@ fn show_sheet(rt: &HostRuntime, sheet: Sheet) -> io::Result<()> {
 
 fn show(rt: &HostRuntime, text: &[u8]) -> io::Result<()> {
     match check_file(text) {
-        Err(fault) => print!(rt;
-            "E,{},{},{}",
-            fault.line,
-            fault.field,
-            fault.refusal.number()
-        )?,
+        Err(fault) => print!(rt; "{fault}")?,
         Ok(sheet) => show_sheet(rt, sheet)?,
     }
     show_values(rt, &DaySheet::new(text))?;
@@ -102,15 +98,9 @@ fn show(rt: &HostRuntime, text: &[u8]) -> io::Result<()> {
 fn main(rt: HostRuntime) -> io::Result<()> {
     let mut input = Vec::new(rt.alloc());
     rt.stdin().read_to_end(&mut input)?;
-    let mut rest = input.as_slice();
-    for _ in 0..input.len() {
-        if rest.len() == 0 {
-            break;
-        }
-        let (line, behind) = house_file::cut::cut(rest, b'\n');
+    for line in Lines::of(input.as_slice()) {
         let text = file_of(rt.alloc(), line)?;
         show(&rt, text.as_slice())?;
-        rest = behind;
     }
     Ok(())
 }
