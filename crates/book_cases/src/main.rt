@@ -56,7 +56,7 @@ fn calls() -> [Call; 16] {
 }
 
 fn show_refusal(rt: &HostRuntime, refusal: Refusal) -> io::Result<()> {
-    print!(rt; " R{}", refusal.number())
+    print!(rt; " R{refusal}")
 }
 
 fn show_answer(rt: &HostRuntime, answer: Answer) -> io::Result<()> {
@@ -96,7 +96,7 @@ fn fill<B: DaySource + Daybook>(book: &mut B) -> u16 {
     for passed in 0..MOST_DAYS {
         for element in Element::ALL {
             let day = i32::from(passed) + 1;
-            let number = i32::from(element.number());
+            let number = i32::from(u8::from(element));
             if book.enter(day, number, element.lowest()).is_ok() {
                 taken = taken.saturating_add(1);
             }

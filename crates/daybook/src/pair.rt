@@ -12,8 +12,8 @@ const LAST_DAY: i32 = 31;
 
 const ELEMENTS: usize = 12;
 
-// A checked pair: its day is one from 1 to 31. Pairs go by day, then by element.
-#[derive(Clone, Copy, PartialEq, Eq, PartialOrd, Ord)]
+// A checked pair: its day is one from 1 to 31.
+#[derive(Clone, Copy, PartialEq, Eq)]
 pub struct Pair {
     day: u8,
     element: Element,

@@ -57,7 +57,7 @@ fn show_values(rt: &HostRuntime, source: &DaySheet<'_>) -> io::Result<()> {
     for day in 1..=MOST_DAYS {
         for element in Element::ALL {
             if let Some(value) = reading(source, day, element) {
-                print!(rt; " {day}/{}={value}", element.number())?;
+                print!(rt; " {day}/{}={value}", u8::from(element))?;
             }
         }
     }
@@ -82,7 +82,7 @@ fn show_sheet(rt: &HostRuntime, sheet: Sheet) -> io::Result<()> {
         sheet.station(),
         calendar.year(),
         calendar.month(),
-        sheet.wind().number()
+        u8::from(sheet.wind())
     )
 }
 

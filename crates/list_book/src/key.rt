@@ -33,8 +33,8 @@ impl Ord for PairKey {
     ghost matches_eq = { pair_cmp_equal };
 
     fn cmp(&self, other: &PairKey) -> Ordering {
-        let element = self.pair.element().number();
-        let other_element = other.pair.element().number();
+        let element = u8::from(self.pair.element());
+        let other_element = u8::from(other.pair.element());
         let day = self.pair.day();
         day.cmp(&other.pair.day()).then(element.cmp(&other_element))
     }

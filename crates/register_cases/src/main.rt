@@ -67,7 +67,7 @@ fn with_rain(rain: i32, days: Option<i32>) -> Normals {
 }
 
 fn show_refusal(rt: &HostRuntime, refusal: Refusal) -> io::Result<()> {
-    print!(rt; " R{}", refusal.number())
+    print!(rt; " R{refusal}")
 }
 
 fn show_check(rt: &HostRuntime, normals: Normals) -> io::Result<()> {
@@ -106,7 +106,7 @@ fn store(
     print!(rt; "store {station} {month} {number}:")?;
     match register.store(station, month, with_number(4, number)) {
         Ok(()) => println!(rt; " ok, {} records", register.len()),
-        Err(refusal) => println!(rt; " R{}, {} records", refusal.number(), register.len()),
+        Err(refusal) => println!(rt; " R{refusal}, {} records", register.len()),
     }
 }
 

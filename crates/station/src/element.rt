@@ -6,7 +6,7 @@ ghost use Rattle.station.specs.Elements.{element_number, element_numbered, unit_
 
 use crate::refusal::Refusal;
 
-#[derive(Clone, Copy, PartialEq, Eq, PartialOrd, Ord, Debug)]
+#[derive(Clone, Copy, PartialEq, Eq, Debug)]
 pub enum Element {
     StationPressure = 1,
     SeaLevelPressure = 2,
