@@ -33,7 +33,7 @@ impl<T: Ord + Copy> Extreme<T> {
 }
 
 // The extreme of the days from 1 to the last, or none where there is no day or one has no reading.
-pub fn find_extreme<T: Ord + Copy, F: Fn(u8) -> Option<T>>(
+pub(crate) fn find_extreme<T: Ord + Copy, F: Fn(u8) -> Option<T>>(
     readings: F,
     last: u8,
 ) -> Option<Extreme<T>>

@@ -7,23 +7,21 @@ ghost use Rattle.layout.specs.Laid.{figures_fit};
 ghost use Rattle.section_figures.specs.Third.{days_at, third_figures};
 
 use columns::limit::Limit;
+use columns::month::ObservedMonth;
 use columns::table::report_limits;
 use daybook::source::DaySource;
 use figures::days::days_at_limit;
-use station::calendar::CalendarMonth;
 
 // The days that meet a limit.
-fn days_at<S: DaySource>(source: &S, limit: Limit, month: CalendarMonth) -> Option<u32>
-    ensures value { result ≡ days_at (S.grid source.now) (days_of month) limit }
-    ensures same { source.exit.now ≡ source.entry.now }
+fn days_at<S: DaySource>(month: ObservedMonth<'_, S>, limit: Limit) -> Option<u32>
+    ensures { result ≡ days_at (S.grid month.entry.source.now) (days_of month.entry.calendar) limit }
 {
-    days_at_limit(source, limit, month).map(u32::from)
+    days_at_limit(month, limit).map(u32::from)
 }
 
-pub fn third_figures<S: DaySource>(source: &S, month: CalendarMonth) -> [Option<u32>; 22]
-    ensures value { result ≡ third_figures (S.grid source.now) (days_of month) }
-    ensures fits { figures_fit (days_of month) (groups_of Third) (rows_of Third) (third_figures (S.grid source.now) (days_of month)) ≡ true }
-    ensures same { source.exit.now ≡ source.entry.now }
+pub fn third_figures<S: DaySource>(month: ObservedMonth<'_, S>) -> [Option<u32>; 22]
+    ensures value { result ≡ third_figures (S.grid month.entry.source.now) (days_of month.entry.calendar) }
+    ensures fits { figures_fit (days_of month.entry.calendar) (groups_of Third) (rows_of Third) (third_figures (S.grid month.entry.source.now) (days_of month.entry.calendar)) ≡ true }
 {
-    report_limits().map(|limit| days_at(source, limit, month))
+    report_limits().map(|limit| days_at(month, limit))
 }
