@@ -83,21 +83,18 @@ fn show_call(rt: &HostRuntime, call: Call) -> io::Result<()> {
 
 // How many pairs are filled.
 fn filled<S: DaySource>(source: &S) -> u16 {
-    let mut pairs: u16 = 0;
-    for element in Element::ALL {
-        pairs = pairs.saturating_add(u16::from(days_held(source, element, MOST_DAYS)));
-    }
-    pairs
+    Element::ALL.iter().fold(0, |pairs: u16, element| {
+        pairs.saturating_add(u16::from(days_held(source, *element, MOST_DAYS)))
+    })
 }
 
 // Enters the lowest value at every pair, and answers how many entries were taken.
 fn fill<B: DaySource + Daybook>(book: &mut B) -> u16 {
     let mut taken: u16 = 0;
-    for passed in 0..MOST_DAYS {
+    for day in 1..=MOST_DAYS {
         for element in Element::ALL {
-            let day = i32::from(passed) + 1;
             let number = i32::from(u8::from(element));
-            if book.enter(day, number, element.lowest()).is_ok() {
+            if book.enter(i32::from(day), number, element.lowest()).is_ok() {
                 taken = taken.saturating_add(1);
             }
         }

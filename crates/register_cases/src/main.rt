@@ -7,63 +7,23 @@ use normals::record::Normals;
 use normals::register::{Register, blank_line};
 use station::refusal::Refusal;
 use std::io;
+use std::ops::RangeInclusive;
 
 const MOST_LINES: usize = 3;
 
-const FIELDS: [(&str, i32, i32); 19] = [
-    ("first year", 0, 99),
-    ("last year", 0, 99),
-    ("station pressure", 1000, 10999),
-    ("sea level pressure", 1000, 10999),
-    ("mean temperature", -999, 999),
-    ("highest temperature", -999, 999),
-    ("lowest temperature", -999, 999),
-    ("deviation", 0, 999),
-    ("vapour pressure", 0, 999),
-    ("rain", 0, 309969),
-    ("rain days", 0, 31),
-    ("sunshine", 0, 744),
-    ("years of pressure missing", 0, 99),
-    ("years of temperature missing", 0, 99),
-    ("years of extremes missing", 0, 99),
-    ("years of vapour pressure missing", 0, 99),
-    ("years of rain missing", 0, 99),
-    ("years of sunshine missing", 0, 99),
-    ("print", 0, 1),
-];
-
-// A record that gives one number alone, by its place in the list of fields.
-fn with_number(place: usize, number: i32) -> Normals {
-    let mut normals = CheckedNormals::blank().normals();
-    match place {
-        0 => normals.first_year = number,
-        1 => normals.last_year = number,
-        2 => normals.station_pressure = Some(number),
-        3 => normals.sea_level_pressure = Some(number),
-        4 => normals.mean_temperature = Some(number),
-        5 => normals.highest_temperature = Some(number),
-        6 => normals.lowest_temperature = Some(number),
-        7 => normals.deviation = Some(number),
-        8 => normals.vapour_pressure = Some(number),
-        9 => normals.rain = Some(number),
-        10 => normals.rain_days = Some(number),
-        11 => normals.sunshine = Some(number),
-        12 => normals.missing.pressure = number,
-        13 => normals.missing.temperature = number,
-        14 => normals.missing.extremes = number,
-        15 => normals.missing.vapour_pressure = number,
-        16 => normals.missing.rain = number,
-        17 => normals.missing.sunshine = number,
-        _ => normals.print = number,
+fn with_mean_temperature(number: i32) -> Normals {
+    Normals {
+        mean_temperature: Some(number),
+        ..CheckedNormals::blank().normals()
     }
-    normals
 }
 
 fn with_rain(rain: i32, days: Option<i32>) -> Normals {
-    let mut normals = CheckedNormals::blank().normals();
-    normals.rain = Some(rain);
-    normals.rain_days = days;
-    normals
+    Normals {
+        rain: Some(rain),
+        rain_days: days,
+        ..CheckedNormals::blank().normals()
+    }
 }
 
 fn show_refusal(rt: &HostRuntime, refusal: Refusal) -> io::Result<()> {
@@ -77,13 +37,97 @@ fn show_check(rt: &HostRuntime, normals: Normals) -> io::Result<()> {
     }
 }
 
-fn show_field(rt: &HostRuntime, place: usize, field: (&str, i32, i32)) -> io::Result<()> {
-    let (name, low, high) = field;
+// The checks of records that give one number alone: below, at and above its limits.
+fn show_field<F: Fn(&mut Normals, i32)>(
+    rt: &HostRuntime,
+    name: &str,
+    limits: RangeInclusive<i32>,
+    set: F,
+) -> io::Result<()>
+    requires { F.IsAlwaysCallable set }
+{
+    let (low, high) = (*limits.start(), *limits.end());
     print!(rt; "{name}:")?;
     for number in [low.saturating_sub(1), low, high, high.saturating_add(1)] {
-        show_check(rt, with_number(place, number))?;
+        let mut normals = CheckedNormals::blank().normals();
+        set(&mut normals, number);
+        show_check(rt, normals)?;
     }
     println!(rt; "")
+}
+
+fn show_measures(rt: &HostRuntime) -> io::Result<()> {
+    show_field(rt, "station pressure", 1000..=10999, |normals, number| {
+        normals.station_pressure = Some(number)
+    })?;
+    show_field(rt, "sea level pressure", 1000..=10999, |normals, number| {
+        normals.sea_level_pressure = Some(number)
+    })?;
+    show_field(rt, "mean temperature", -999..=999, |normals, number| {
+        normals.mean_temperature = Some(number)
+    })?;
+    show_field(rt, "highest temperature", -999..=999, |normals, number| {
+        normals.highest_temperature = Some(number)
+    })?;
+    show_field(rt, "lowest temperature", -999..=999, |normals, number| {
+        normals.lowest_temperature = Some(number)
+    })?;
+    show_field(rt, "deviation", 0..=999, |normals, number| {
+        normals.deviation = Some(number)
+    })?;
+    show_field(rt, "vapour pressure", 0..=999, |normals, number| {
+        normals.vapour_pressure = Some(number)
+    })?;
+    show_field(rt, "rain", 0..=309969, |normals, number| {
+        normals.rain = Some(number)
+    })?;
+    show_field(rt, "rain days", 0..=31, |normals, number| {
+        normals.rain_days = Some(number)
+    })?;
+    show_field(rt, "sunshine", 0..=744, |normals, number| {
+        normals.sunshine = Some(number)
+    })
+}
+
+fn show_missing(rt: &HostRuntime) -> io::Result<()> {
+    show_field(rt, "years of pressure missing", 0..=99, |normals, number| {
+        normals.missing.pressure = number
+    })?;
+    show_field(
+        rt,
+        "years of temperature missing",
+        0..=99,
+        |normals, number| { normals.missing.temperature = number },
+    )?;
+    show_field(rt, "years of extremes missing", 0..=99, |normals, number| {
+        normals.missing.extremes = number
+    })?;
+    show_field(
+        rt,
+        "years of vapour pressure missing",
+        0..=99,
+        |normals, number| { normals.missing.vapour_pressure = number },
+    )?;
+    show_field(rt, "years of rain missing", 0..=99, |normals, number| {
+        normals.missing.rain = number
+    })?;
+    show_field(rt, "years of sunshine missing", 0..=99, |normals, number| {
+        normals.missing.sunshine = number
+    })
+}
+
+fn show_fields(rt: &HostRuntime) -> io::Result<()> {
+    show_field(rt, "first year", 0..=99, |normals, number| {
+        normals.first_year = number
+    })?;
+    show_field(rt, "last year", 0..=99, |normals, number| {
+        normals.last_year = number
+    })?;
+    show_measures(rt)?;
+    show_missing(rt)?;
+    show_field(rt, "print", 0..=1, |normals, number| {
+        normals.print = number
+    })
 }
 
 fn show_rain(rt: &HostRuntime) -> io::Result<()> {
@@ -104,7 +148,7 @@ fn store(
     number: i32,
 ) -> io::Result<()> {
     print!(rt; "store {station} {month} {number}:")?;
-    match register.store(station, month, with_number(4, number)) {
+    match register.store(station, month, with_mean_temperature(number)) {
         Ok(()) => println!(rt; " ok, {} records", register.len()),
         Err(refusal) => println!(rt; " R{refusal}, {} records", register.len()),
     }
@@ -155,11 +199,7 @@ fn show_register(rt: &HostRuntime, count: usize) -> io::Result<()> {
 }
 
 fn main(rt: HostRuntime) -> io::Result<()> {
-    let mut place: usize = 0;
-    for field in FIELDS {
-        show_field(&rt, place, field)?;
-        place = place.saturating_add(1);
-    }
+    show_fields(&rt)?;
     show_rain(&rt)?;
     for count in [0, 1, 3] {
         show_register(&rt, count)?;
