@@ -11,7 +11,6 @@ use daybook::source::{DaySource, Daybook};
 use list_book::book::ListBook;
 use list_book::line::blank_line;
 use station::element::Element;
-use station::refusal::Refusal;
 use std::io;
 
 const MOST_DAYS: u8 = 31;
@@ -55,17 +54,13 @@ fn calls() -> [Call; 16] {
     ]
 }
 
-fn show_refusal(rt: &HostRuntime, refusal: Refusal) -> io::Result<()> {
-    print!(rt; " R{refusal}")
-}
-
 fn show_answer(rt: &HostRuntime, answer: Answer) -> io::Result<()> {
     match answer {
         Answer::Changed(Ok(())) => print!(rt; " ok"),
-        Answer::Changed(Err(refusal)) => show_refusal(rt, refusal),
+        Answer::Changed(Err(refusal)) => print!(rt; " R{refusal}"),
         Answer::Found(Ok(Some(value))) => print!(rt; " {value}"),
         Answer::Found(Ok(None)) => print!(rt; " -"),
-        Answer::Found(Err(refusal)) => show_refusal(rt, refusal),
+        Answer::Found(Err(refusal)) => print!(rt; " R{refusal}"),
     }
 }
 

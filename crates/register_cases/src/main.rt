@@ -5,7 +5,6 @@
 use normals::checked::CheckedNormals;
 use normals::record::Normals;
 use normals::register::{Register, blank_line};
-use station::refusal::Refusal;
 use std::io;
 use std::ops::RangeInclusive;
 
@@ -26,14 +25,10 @@ fn with_rain(rain: i32, days: Option<i32>) -> Normals {
     }
 }
 
-fn show_refusal(rt: &HostRuntime, refusal: Refusal) -> io::Result<()> {
-    print!(rt; " R{refusal}")
-}
-
 fn show_check(rt: &HostRuntime, normals: Normals) -> io::Result<()> {
     match CheckedNormals::check(normals) {
         Ok(_) => print!(rt; " ok"),
-        Err(refusal) => show_refusal(rt, refusal),
+        Err(refusal) => print!(rt; " R{refusal}"),
     }
 }
 
@@ -168,7 +163,7 @@ fn look_up(rt: &HostRuntime, register: &Register<'_>, station: i32, month: i32) 
     print!(rt; "look up {station} {month}:")?;
     match register.look_up(station, month) {
         Ok(found) => show_found(rt, found)?,
-        Err(refusal) => show_refusal(rt, refusal)?,
+        Err(refusal) => print!(rt; " R{refusal}")?,
     }
     println!(rt; "")
 }
