@@ -1,8 +1,7 @@
 use Rattle.std.proofs.Common.{◌≡◌, ℕ, ◌-◌, ◌*◌, nat_abs, Option, sym, ap, ap₂, ◌∙◌, subst, arith}
 use Rattle.std.proofs.lemmas.Int.{ints}
-use Rattle.std.proofs.lemmas.Nat.{mul-le}
 use Rattle.rounding.specs.Deviations.{scatter, deviation_divisor, Deviates, IsDeviation, Deviated, SumsHold}
-use Rattle.rounding.proofs.OnDeviations.{divisor_positive, bounds_broken, none_deviates, root_found, some_deviates, deviated_by, sums_grow}
+use Rattle.rounding.proofs.OnDeviations.{bounds_broken, none_deviates, root_found, some_deviates, deviated_by, sums_grow}
 use Rattle.rounding.proofs.deviation.deviation.Goals as goal
 
 pub returns-then-n-lt-LEAST_DAYS : goal.returns-then-n-lt-LEAST_DAYS
@@ -29,16 +28,6 @@ returns-in_err-scatter c =
     let square : c.from-size.result * c.from-size.result ≡ nat_abs s * nat_abs s = let size : c.from-size.result ≡ nat_abs s = omega (arith, ints) in cc in
     let broken = bounds_broken n s squares (λ least days sums. let enough = sums.squares_enough in let short = c.in_err-scatter.ensures in short (omega arith)) in
     record { value = c.from_residual.ensures ∙ none_deviates n s squares broken; law = subst (λ (z : Option ℕ). Deviated n s squares z) (sym c.from_residual.ensures) broken; sums = sums_grow }
-
-pub nearest_root-requires : goal.nearest_root-requires
-unfolding deviation_divisor
-nearest_root-requires c =
-    let positive = divisor_positive c.args.count (omega arith) in
-    let same : c.from-n.result ≡ c.args.count = omega arith in
-    let divisor = ap deviation_divisor same in
-    let most = mul-le c.from-n.result c.args.squares 31 25110000 (omega arith) (omega arith) in
-    let scatter = c.in_ok-scatter.ensures in
-    record { divisor_nonzero = omega arith; scatter_bound = omega arith }
 
 -- the sums have passed the tests
 tested : (c : goal.After-nearest_root) → SumsHold c.args.count c.args.sum c.args.squares

@@ -1,7 +1,7 @@
 use Rattle.std.proofs.Common.{get_or, sym, ◌∙◌, ⊎_elim, arith}
 use Rattle.text.proofs.OnDigits.{digit_bounds, digits_undo}
 use Rattle.text.proofs.OnExamples.{examples}
-use Rattle.text.proofs.OnNumbers.{too_short, too_long, none_read, digits_small, digit_tells, digit_lacks, digit_read, digit_missing, all_read}
+use Rattle.text.proofs.OnNumbers.{too_short, too_long, digits_small, digit_tells, digit_lacks, digit_read, digit_missing, all_read}
 use Rattle.text.proofs.number.number.Goals as goal
 
 pub returns-then-is_empty : goal.returns-then-is_empty
@@ -10,9 +10,6 @@ returns-then-is_empty c = record {
   law = digits_undo;
   examples = examples;
 }
-
-pub loop-byte-init : goal.loop-byte-init
-loop-byte-init c = none_read c.args.bytes.now
 
 pub returns-in_err-value : goal.returns-in_err-value
 returns-in_err-value c = record {
