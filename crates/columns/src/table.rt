@@ -5,42 +5,45 @@ ghost use Rattle.columns.specs.Counts.{limits};
 use crate::limit::{Comparison, Limit};
 use station::element::Element;
 
+// An element, how its values are compared, and with which bound.
+macro_rules! limit {
+    ($element:ident, $comparison:ident, $bound:literal) => {
+        Limit {
+            element: Element::$element,
+            comparison: Comparison::$comparison,
+            bound: $bound,
+        }
+    };
+}
+
+const LIMITS: [Limit; 22] = [
+    limit!(HighestTemperature, AtLeast, 250),
+    limit!(HighestTemperature, AtLeast, 300),
+    limit!(HighestTemperature, AtLeast, 350),
+    limit!(HighestTemperature, AtLeast, 400),
+    limit!(LowestTemperature, Under, 0),
+    limit!(HighestTemperature, Under, 0),
+    limit!(Rain, AtLeast, 10),
+    limit!(Rain, AtLeast, 50),
+    limit!(Rain, AtLeast, 100),
+    limit!(Rain, AtLeast, 500),
+    limit!(Rain, AtLeast, 1000),
+    limit!(Rain, AtLeast, 1500),
+    limit!(SnowDepth, Above, 0),
+    limit!(SnowDepth, Above, 1),
+    limit!(SnowDepth, Above, 10),
+    limit!(SnowDepth, Above, 50),
+    limit!(Wind, AtLeast, 100),
+    limit!(Wind, AtLeast, 200),
+    limit!(Wind, AtLeast, 300),
+    limit!(Visibility, Under, 5),
+    limit!(Visibility, Under, 10),
+    limit!(Visibility, Under, 100),
+];
+
 // In the order of the report.
 pub fn report_limits() -> [Limit; 22]
     ensures { result ≡ limits }
 {
-    [
-        limit(Element::HighestTemperature, Comparison::AtLeast, 250),
-        limit(Element::HighestTemperature, Comparison::AtLeast, 300),
-        limit(Element::HighestTemperature, Comparison::AtLeast, 350),
-        limit(Element::HighestTemperature, Comparison::AtLeast, 400),
-        limit(Element::LowestTemperature, Comparison::Under, 0),
-        limit(Element::HighestTemperature, Comparison::Under, 0),
-        limit(Element::Rain, Comparison::AtLeast, 10),
-        limit(Element::Rain, Comparison::AtLeast, 50),
-        limit(Element::Rain, Comparison::AtLeast, 100),
-        limit(Element::Rain, Comparison::AtLeast, 500),
-        limit(Element::Rain, Comparison::AtLeast, 1000),
-        limit(Element::Rain, Comparison::AtLeast, 1500),
-        limit(Element::SnowDepth, Comparison::Above, 0),
-        limit(Element::SnowDepth, Comparison::Above, 1),
-        limit(Element::SnowDepth, Comparison::Above, 10),
-        limit(Element::SnowDepth, Comparison::Above, 50),
-        limit(Element::Wind, Comparison::AtLeast, 100),
-        limit(Element::Wind, Comparison::AtLeast, 200),
-        limit(Element::Wind, Comparison::AtLeast, 300),
-        limit(Element::Visibility, Comparison::Under, 5),
-        limit(Element::Visibility, Comparison::Under, 10),
-        limit(Element::Visibility, Comparison::Under, 100),
-    ]
-}
-
-fn limit(element: Element, comparison: Comparison, bound: i32) -> Limit
-    ensures { result ≡ record { element = element; comparison = comparison; bound = bound } }
-{
-    Limit {
-        element,
-        comparison,
-        bound,
-    }
+    LIMITS
 }

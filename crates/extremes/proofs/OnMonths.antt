@@ -44,7 +44,3 @@ module _ {X : Type 0} (kind : ℤ → X) where
     pub of_month : (last : ℕ) → last ≡ days_of m → 28 ≤ last → last ≤ most_days → (answer : Option (Extreme X)) → Searched over (days_as kind g x) last answer → OfMonth over kind g x m answer
     of_month last is least most answer s =
         at_month (omega (arith, is)) (omega (arith, is)) answer (subst (λ (n : ℕ). Searched over (days_as kind g x) n answer) is s)
-
--- rankings that always agree have the same extreme
-pub ranked_alike : {X : Type 0} (over over' : X → X → Bool) (kind : ℤ → X) (g : Grid) (x : Element) (m : CalendarMonth) (answer : Option (Extreme X)) → ((y z : X) → over y z ≡ over' y z) → OfMonth over kind g x m answer → OfMonth over' kind g x m answer
-ranked_alike over over' kind g x m answer same = subst (λ rank. OfMonth rank kind g x m answer) (λ i y z. same y z i)

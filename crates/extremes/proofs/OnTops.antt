@@ -1,34 +1,16 @@
--- The extreme of days, day by day, and that there is only one.
+-- The extreme of days, day by day, and that there is only one. Assumes nothing of the ranking but its two laws.
 use Rattle.std.proofs.Common.{◌≡◌, ℕ, ◌+◌, ◌-◌, ◌≤◌, Bool, true, false, Some, None, Option, sym, refl, ap, ◌∙◌, subst, inl, inr, ⊎_elim, arith}
 use Rattle.std.proofs.lemmas.Bool.{both_ways, cases_lt, cases_Bool}
 use Rattle.std.proofs.lemmas.Option.{none-some, same_Some}
-use Rattle.std.proofs.lemmas.Cmp.{upto}
-use Rattle.std.specs.Cmp.{IsTotalOrder}
-use Rattle.std.specs.Ordering.{is_gt, ordering_reverse}
-use Rattle.std.specs.declared.cmp.Ordering.{Ordering}
-use Rattle.std.specs.declared.cmp.Ordering.TheVariants.{Less, Equal, Greater}
 use Rattle.extremes.specs.declared.search.Extreme.{Extreme}
-use Rattle.extremes.specs.Tops.{Full, Lacking, Agree, Tops, Right, Searched, above, after_day}
+use Rattle.extremes.specs.Tops.{Full, Lacking, Agree, Tops, Right, Searched, after_day}
 
 same_extreme : {X : Type 0} (e f : Extreme X) → e.reading ≡ f.reading → e.day ≡ f.day → e.recurs ≡ f.recurs → e ≡ f
 same_extreme e f x d r = λ i. record { reading = x i; day = d i; recurs = r i }
 
-Greater-one_way : (r : Ordering) → is_gt r ≡ true → is_gt (ordering_reverse r) ≡ false
-Greater-one_way Less e = cc
-Greater-one_way Equal e = cc
-Greater-one_way Greater e = refl
-
 -- ---- one more day
-module _ {X : Type 0} (order : X → X → Ordering) (total : IsTotalOrder order) (at : ℕ → Option X) where
-  abbrev over : X → X → Bool
-  over = above order
-
-  one_way : (x y : X) → over x y ≡ true → over y x ≡ false
-  one_way x y up = ap is_gt (total.antisymm y x) ∙ Greater-one_way (order x y) up
-
-  chain : (x y z : X) → over x y ≡ false → over y z ≡ false → over x z ≡ false
-  chain = upto total
-
+module _ {X : Type 0} (over : X → X → Bool) (one_way : (x y : X) → over x y ≡ true → over y x ≡ false)
+    (chain : (x y z : X) → over x y ≡ false → over y z ≡ false → over x z ≡ false) (at : ℕ → Option X) where
   not_itself : (x : X) → over x x ≡ false
   not_itself x = ⊎_elim (λ t. one_way x x t) (λ f. f) (cases_Bool (over x x))
 

@@ -1,5 +1,5 @@
 -- Which of two readings of a kind outranks the other, and the readings of a kind that a grid holds.
-use Rattle.std.specs.Prelude.{◌≡◌, ℕ, Bool, ℤ, Option, option_map, int_lt}
+use Rattle.std.specs.Prelude.{ℕ, Bool, ℤ, Option, option_map, int_lt}
 use Rattle.station.specs.declared.element.Element.{Element}
 use Rattle.station.specs.declared.wind.WindIndicator.{WindIndicator}
 use Rattle.daybook.specs.Grid.{Grid}
@@ -44,7 +44,3 @@ as_wind i v = record { speed = v; indicator = i }
 -- what a grid holds of an element on each day, as readings of a kind
 abbrev pub days_as : {X : Type 0} → (ℤ → X) → Grid → Element → ℕ → Option X
 days_as kind g x day = option_map kind (column g x day)
-
--- of each value, what is made is the reading of the kind and nothing else
-abbrev pub GivesKind : {X : Type 0} → (ℤ → X → Type 0) → (ℤ → X) → Type 0
-GivesKind {X} made kind = (value : ℤ) (reading : X) → made value reading → reading ≡ kind value

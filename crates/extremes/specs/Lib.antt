@@ -1,3 +1,4 @@
 pub mod Tops
 pub mod Kinds
 pub mod Months
+pub mod Rankings

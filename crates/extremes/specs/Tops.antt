@@ -1,12 +1,6 @@
 -- The extreme of the readings of days: the reading, the first day that has it, and whether it recurs.
 use Rattle.std.specs.Prelude.{◌≡◌, ℕ, ◌<◌, ◌≤◌, Bool, true, false, cond, ◌⊎◌, Some, None, Option}
-use Rattle.std.specs.Ordering.{is_gt}
-use Rattle.std.specs.declared.cmp.Ordering.{Ordering}
 use Rattle.extremes.specs.declared.search.Extreme.{Extreme}
-
--- whether the first of two readings outranks the second in an order
-abbrev pub above : {X : Type 0} → (X → X → Ordering) → X → X → Bool
-above order x y = is_gt (order x y)
 
 -- neither of two readings outranks the other
 abbrev pub SameRank : {X : Type 0} → (X → X → Bool) → X → X → Type 0
@@ -23,10 +17,6 @@ Lacking at last = (last ≡ 0) ⊎ ((day : ℕ) × (1 ≤ day) × (day ≤ last)
 -- readings that are the same on every day from 1 to the last
 abbrev pub Agree : {X : Type 0} → (ℕ → Option X) → (ℕ → Option X) → ℕ → Type 0
 Agree at at' last = (day : ℕ) → 1 ≤ day → day ≤ last → at day ≡ at' day
-
--- of each day from 1 to the last, what is told is the reading and nothing else
-abbrev pub GivesReadings : {X : Type 0} → (ℕ → Option X → Type 0) → (ℕ → Option X) → ℕ → Type 0
-GivesReadings {X} told at last = (day : ℕ) → 1 ≤ day → day ≤ last → (reading : Option X) → told day reading → reading ≡ at day
 
 -- the reading is the extreme of the days from 1 to the last, the day is the first that has one of its rank, and it recurs or not
 pub record Tops {X : Type 0} (over : X → X → Bool) (at : ℕ → Option X) (last : ℕ) (reading : X) (day : ℕ) (recurs : Bool) : Type 0 where

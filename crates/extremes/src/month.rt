@@ -1,31 +1,16 @@
 // The extremes of a month of any day source. Each is shown exactly if its element has a value on every day of the month.
-ghost use Rattle.std.specs.Prelude.{ℤ};
-ghost use Rattle.extremes.specs.Kinds.{GivesKind};
-ghost use Rattle.extremes.specs.Tops.{above};
-ghost use Rattle.extremes.specs.Months.{OfMonth, Highest, Lowest, MostRain, MostWind};
+ghost use Rattle.extremes.specs.Months.{Highest, Lowest, MostRain, MostWind};
 
-use crate::kinds::{HighTemperature, LowTemperature, RainDepth, WindSpeed};
+use crate::days::DaysAs;
+use crate::kinds::{
+    HighTemperature, HighTemperatures, LowTemperature, LowTemperatures, RainDepth, RainDepths,
+    WindSpeed,
+};
 use crate::search::{Extreme, find_extreme};
 use columns::month::ObservedMonth;
-use daybook::reading::reading;
 use daybook::source::DaySource;
 use station::element::Element;
 use station::wind::WindIndicator;
-
-// The extreme of an element's values as readings of a kind.
-fn extreme_of<S: DaySource, T: Ord + Copy, F: Fn(i32) -> T>(
-    month: ObservedMonth<'_, S>,
-    element: Element,
-    kind: F,
-) -> Option<Extreme<T>>
-    requires { F.IsAlwaysCallable kind }
-    ensures { (reading_of : ℤ → T) → GivesKind (F.post kind) reading_of → OfMonth (above T.cmp) reading_of (S.grid month.entry.source.now) element month.entry.calendar result }
-{
-    find_extreme(
-        |day| reading(month.source, day, element).map(|value| kind(value)),
-        month.calendar.length(),
-    )
-}
 
 pub fn highest_temperature<S: DaySource>(
     month: ObservedMonth<'_, S>,
@@ -33,7 +18,12 @@ pub fn highest_temperature<S: DaySource>(
 ) -> Option<Extreme<HighTemperature>>
     ensures { Highest (S.grid month.entry.source.now) element month.entry.calendar result }
 {
-    extreme_of(month, element, HighTemperature)
+    let high_days = DaysAs {
+        source: month.source,
+        element,
+        kind: HighTemperatures,
+    };
+    find_extreme(&high_days, month.calendar.length())
 }
 
 pub fn lowest_temperature<S: DaySource>(
@@ -42,13 +32,23 @@ pub fn lowest_temperature<S: DaySource>(
 ) -> Option<Extreme<LowTemperature>>
     ensures { Lowest (S.grid month.entry.source.now) element month.entry.calendar result }
 {
-    extreme_of(month, element, LowTemperature)
+    let low_days = DaysAs {
+        source: month.source,
+        element,
+        kind: LowTemperatures,
+    };
+    find_extreme(&low_days, month.calendar.length())
 }
 
 pub fn greatest_rain<S: DaySource>(month: ObservedMonth<'_, S>) -> Option<Extreme<RainDepth>>
     ensures { MostRain (S.grid month.entry.source.now) month.entry.calendar result }
 {
-    extreme_of(month, Element::Rain, RainDepth)
+    let rain_days = DaysAs {
+        source: month.source,
+        element: Element::Rain,
+        kind: RainDepths,
+    };
+    find_extreme(&rain_days, month.calendar.length())
 }
 
 pub fn greatest_wind<S: DaySource>(
@@ -57,5 +57,10 @@ pub fn greatest_wind<S: DaySource>(
 ) -> Option<Extreme<WindSpeed>>
     ensures { MostWind (S.grid month.entry.source.now) month.entry.calendar indicator result }
 {
-    extreme_of(month, Element::Wind, |speed| WindSpeed { speed, indicator })
+    let wind_days = DaysAs {
+        source: month.source,
+        element: Element::Wind,
+        kind: indicator,
+    };
+    find_extreme(&wind_days, month.calendar.length())
 }

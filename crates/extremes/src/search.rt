@@ -1,8 +1,18 @@
-// The search for an extreme: one text for every kind of reading that has an order.
+// The search for an extreme: one text for every kind of reading that has a ranking.
 ghost use Rattle.std.specs.Prelude.{◌≡◌, ℕ, Option};
-ghost use Rattle.extremes.specs.Tops.{GivesReadings, Searched, above, after_day};
+ghost use Rattle.extremes.specs.Tops.{Searched, after_day};
 
-use std::cmp::Ordering;
+use crate::ranked::Ranked;
+
+// The readings of days, which count from 1: a reading or none on each.
+pub trait Readings {
+    type Item: Ranked;
+
+    ghost at: { Self → ℕ → Option Self.Item };
+
+    fn on(&self, day: u8) -> Option<Self::Item>
+        ensures { result ≡ at self.now day };
+}
 
 // A reading that no other outranks, the first day that has one of its rank, and whether a later day has one too.
 #[derive(Clone, Copy)]
@@ -12,44 +22,42 @@ pub struct Extreme<T> {
     pub recurs: bool,
 }
 
-impl<T: Ord + Copy> Extreme<T> {
+impl<T: Ranked> Extreme<T> {
     // The extreme once one more day is known.
     fn after(self, reading: T, day: u8) -> Extreme<T>
-        ensures { result ≡ after_day (above T.cmp) self reading day }
+        ensures { result ≡ after_day T.Ranked.over self reading day }
     {
-        match reading.cmp(&self.reading) {
-            Ordering::Greater => Extreme {
+        if reading.outranks(self.reading) {
+            return Extreme {
                 reading,
                 day,
                 recurs: false,
-            },
-            Ordering::Equal => Extreme {
-                recurs: true,
-                ..self
-            },
-            Ordering::Less => self,
+            };
+        }
+        if self.reading.outranks(reading) {
+            return self;
+        }
+        Extreme {
+            recurs: true,
+            ..self
         }
     }
 }
 
 // The extreme of the days from 1 to the last, or none where there is no day or one has no reading.
-pub(crate) fn find_extreme<T: Ord + Copy, F: Fn(u8) -> Option<T>>(
-    readings: F,
-    last: u8,
-) -> Option<Extreme<T>>
-    requires { F.IsAlwaysCallable readings }
-    ensures { (at : ℕ → Option T) → GivesReadings (F.post readings) at last → Searched (above T.cmp) at last result }
+pub fn find_extreme<R: Readings>(readings: &R, last: u8) -> Option<Extreme<R::Item>>
+    ensures { Searched R.Item.Ranked.over (R.Readings.at readings.now) last result }
 {
     if last == 0 {
         return None;
     }
     let mut top = Extreme {
-        reading: readings(1)?,
+        reading: readings.on(1)?,
         day: 1,
         recurs: false,
     };
     for day in 2..=last {
-        top = top.after(readings(day)?, day);
+        top = top.after(readings.on(day)?, day);
     }
     Some(top)
 }

@@ -1,6 +1,6 @@
 // The key of a line: a pair, in order of day and then of element.
 ghost use Rattle.list_book.specs.Pairs.{pair_below, pair_cmp};
-ghost use Rattle.list_book.specs.OnPairs.{pair_cmp_total, pair_cmp_partial, pair_cmp_equal, pair_cmp_below, pair_cmp_apart};
+ghost use Rattle.list_book.specs.OnPairs.{pair_order, pair_cmp_total, pair_cmp_partial, pair_cmp_equal};
 ghost use Rattle.std.specs.Ordering.{as_partial_cmp};
 ghost use Rattle.std.specs.Prelude.{refl};
 
@@ -43,7 +43,17 @@ impl Ord for PairKey {
 impl Key for PairKey {
     ghost below = { pair_below };
 
-    ghost compares = { pair_cmp_below };
+    ghost itself = { pair_order.itself };
 
-    ghost apart = { pair_cmp_apart };
+    ghost chain = { pair_order.chain };
+
+    ghost apart = { pair_order.apart };
+
+    fn before(&self, other: &PairKey) -> bool {
+        let day = self.pair.day();
+        let element = u8::from(self.pair.element());
+        let other_day = other.pair.day();
+        let other_element = u8::from(other.pair.element());
+        day < other_day || (day == other_day && element < other_element)
+    }
 }

@@ -41,8 +41,8 @@ plain (Some c) = Some c.normals
 unfoldable pub filed_at : List (Row StationMonth CheckedNormals) → ℤ → ℤ → Option Normals
 filed_at filed s m = plain (entry_where (is_key s m) filed)
 
--- what a table of records means; k, o, e and p are the order of its keys
-abbrev pub holdings : {k o e p : _} → Table StationMonth CheckedNormals k o e p → Holdings
+-- what a table of records means; k is the order of its keys
+abbrev pub holdings : {k : _} → Table StationMonth CheckedNormals k → Holdings
 holdings t = record { at = filed_at (rows t); count = length (rows t); ceiling = room t }
 
 -- no records

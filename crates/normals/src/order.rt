@@ -1,6 +1,6 @@
 // Keys go by station, then month.
 ghost use Rattle.normals.specs.Order.{key_below};
-ghost use Rattle.normals.specs.OnKeys.{key_compares, key_apart};
+ghost use Rattle.normals.specs.OnKeys.{not_below_itself, below_chain, neither_below};
 
 use crate::key::StationMonth;
 use ordered_table::key::Key;
@@ -8,7 +8,15 @@ use ordered_table::key::Key;
 impl Key for StationMonth {
     ghost below = { key_below };
 
-    ghost compares = { key_compares };
+    ghost itself = { not_below_itself };
 
-    ghost apart = { key_apart };
+    ghost chain = { below_chain };
+
+    ghost apart = { neither_below };
+
+    fn before(&self, other: &StationMonth) -> bool {
+        let station = self.station();
+        let other_station = other.station();
+        station < other_station || (station == other_station && self.month() < other.month())
+    }
 }

@@ -1,8 +1,5 @@
 -- What a total order gives of the rows.
-use Rattle.std.proofs.Common.{Ordering, Less, Equal, Greater, ◌≡◌, Bool, true, false, true≢false, cond, not, ◌&&◌, ℕ, zero, suc, List, [], ◌∷◌, take, is_some, Some, None, Option, sym, refl, ap, ◌∙◌, subst, ⊎_elim}
-use Rattle.std.specs.Ordering.{is_eq, is_lt, ordering_reverse}
-use Rattle.std.specs.Cmp.{IsTotalOrder}
-use Rattle.std.proofs.lemmas.Cmp.{tied_itself}
+use Rattle.std.proofs.Common.{◌≡◌, Bool, true, false, cond, not, ◌&&◌, ℕ, zero, suc, List, [], ◌∷◌, take, is_some, Some, None, Option, sym, refl, ap, ◌∙◌, subst, ⊎_elim}
 use Rattle.std.proofs.lemmas.Bool.{and_parts, and_from, cases_Bool, not-true}
 use Rattle.ordered_table.specs.declared.row.Row.{Row}
 use Rattle.ordered_table.specs.Rows.{found, placed, without}
@@ -17,23 +14,8 @@ pub record Order {K : Type 0} (lt : K → K → Bool) : Type 0 where
   -- of two that differ one is below the other
   pub apart : (x y : K) → lt x y ≡ false → lt y x ≡ false → x ≡ y
 
--- the order that a comparison decides, where keys that compare equal are one key
-pub order_of : {K : Type 0} {lt : K → K → Bool} {R : K → K → Ordering} → IsTotalOrder R → ((x y : K) → is_lt (R x y) ≡ lt x y) → ((x y : K) → is_eq (R x y) ≡ true → x ≡ y) → Order lt
-order_of {K} {lt} {R} total compares one_key = record {
-  itself = λ x. sym (compares x x) ∙ ap is_lt (tied_itself total x);
-  chain = λ x y z p q. sym (compares x z) ∙ ap is_lt (total.trans x y z (less (R x y) (compares x y ∙ p)) (less (R y z) (compares y z ∙ q)));
-  apart = λ x y p q. one_key x y (neither (R x y) (R y x) (total.antisymm x y) (compares x y ∙ p) (compares y x ∙ q));
-}
-  where
-    less : (r : Ordering) → is_lt r ≡ true → r ≡ Less
-    less Less e = refl
-    less Equal e = cc
-    less Greater e = cc
-
-    neither : (r s : Ordering) → r ≡ ordering_reverse s → is_lt r ≡ false → is_lt s ≡ false → is_eq r ≡ true
-    neither r Less e p q = cc
-    neither r Equal e p q = ap is_eq e
-    neither r Greater e p q = absurd (true≢false (sym (ap is_lt e) ∙ p))
+pub order_of : {K : Type 0} {lt : K → K → Bool} → ((x : K) → lt x x ≡ false) → ((x y z : K) → lt x y ≡ true → lt y z ≡ true → lt x z ≡ true) → ((x y : K) → lt x y ≡ false → lt y x ≡ false → x ≡ y) → Order lt
+order_of itself chain apart = record { itself = itself; chain = chain; apart = apart }
 
 and_false : (a : Bool) → (a && false) ≡ false
 and_false true = refl

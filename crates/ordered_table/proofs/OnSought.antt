@@ -1,15 +1,12 @@
 -- Where a key stands among rows in rising order, and what a put or a removal at its place gives.
-use Rattle.std.proofs.Common.{Ordering, ◌≡◌, ℕ, zero, suc, ◌+◌, ◌<◌, ◌≤◌, Bool, true, false, cond, List, [], ◌∷◌, length, get_or, take, drop, set, is_some, Some, None, Ok, Err, Result, sym, refl, ap, ◌∙◌, subst, one-add, add-one, arith}
+use Rattle.std.proofs.Common.{◌≡◌, ℕ, zero, suc, ◌<◌, ◌≤◌, Bool, true, false, cond, not, List, [], ◌∷◌, length, get_or, take, drop, set, is_some, Some, None, Ok, Err, Result, sym, refl, ap, ◌∙◌, subst, ⊎_elim, one-add, arith, length-take-le, get_or-take}
 use Rattle.std.specs.List.{insert, remove}
-use Rattle.std.specs.List.Sorted.{IsSearchInRange, IsBinarySearchResult}
-use Rattle.std.specs.Ordering.{is_eq, is_lt, ordering_reverse}
-use Rattle.std.specs.Cmp.{IsTotalOrder}
-use Rattle.std.proofs.lemmas.Bool.{and_parts}
-use Rattle.std.proofs.lemmas.List.Sorted.{searchable_from_sorted}
+use Rattle.std.specs.List.Sorted.{IsPartitionedBy, IsPartitionPoint}
+use Rattle.std.proofs.lemmas.Bool.{and_parts, cases_lt, not-true}
 use Rattle.ordered_table.specs.declared.row.Row.{Row}
-use Rattle.ordered_table.specs.Rows.{ahead, found, placed, without, row_of, sought}
+use Rattle.ordered_table.specs.Rows.{ahead, found, placed, without, row_of, sought, not_below}
 use Rattle.ordered_table.specs.Order.{each_key, rising}
-use Rattle.ordered_table.proofs.OnOrder.{Order, not_both}
+use Rattle.ordered_table.proofs.OnOrder.{Order}
 
 module _ {K E : Type 0} (lt : K → K → Bool) (k : K) where
   -- what a search's answer says of the rows
@@ -44,7 +41,7 @@ module _ {K E : Type 0} (lt : K → K → Bool) (k : K) where
   ok_found [] i e = cc
   ok_found (x ∷ xs) i e = ap is_some ((at_ok (x ∷ xs) i e).1 x)
 
--- ---- a binary search ends where the key stands, or would
+-- ---- a search by halves ends where the key stands, or would
 module _ {K E : Type 0} {lt : K → K → Bool} (o : Order lt) where
   -- a key is below that of each later row
   each_at : (k : K) (rows : List (Row K E)) (i : ℕ) (d : Row K E) → each_key (lt k) rows ≡ true → i < length rows → lt k (get_or rows i d).key ≡ true
@@ -53,44 +50,84 @@ module _ {K E : Type 0} {lt : K → K → Bool} (o : Order lt) where
   each_at k (x ∷ xs) zero d h l = (and_parts (lt k x.key) (each_key (lt k) xs) h).0
   each_at k (x ∷ xs) (suc i) d h l = each_at k xs i d (and_parts (lt k x.key) (each_key (lt k) xs) h).1 (omega (arith, l))
 
-  -- no row is below one before it
-  rising_next : (rows : List (Row K E)) → rising lt rows ≡ true → (i : ℕ) (d : Row K E) → suc i < length rows → lt (get_or rows (suc i) d).key (get_or rows i d).key ≡ false
+  -- each row is below every later one
+  rising_at : (rows : List (Row K E)) → rising lt rows ≡ true → (i j : ℕ) (d : Row K E) → i < j → j < length rows → lt (get_or rows i d).key (get_or rows j d).key ≡ true
   unfolding rising
-  rising_next [] h i d l = absurd (omega (arith, l))
-  rising_next (x ∷ xs) h zero d l = not_both o x.key (get_or xs 0 d).key (each_at x.key xs 0 d (and_parts (each_key (lt x.key) xs) (rising lt xs) h).0 (omega (arith, l)))
-  rising_next (x ∷ xs) h (suc i) d l = rising_next xs (and_parts (each_key (lt x.key) xs) (rising lt xs) h).1 i d (omega (arith, l))
+  rising_at [] h i j d m l = absurd (omega (arith, l))
+  rising_at (x ∷ xs) h i zero d m l = absurd (omega (arith, m))
+  rising_at (x ∷ xs) h zero (suc j) d m l = each_at x.key xs j d (and_parts (each_key (lt x.key) xs) (rising lt xs) h).0 (omega (arith, l))
+  rising_at (x ∷ xs) h (suc i) (suc j) d m l = rising_at xs (and_parts (each_key (lt x.key) xs) (rising lt xs) h).1 i j d (omega (arith, m)) (omega (arith, l))
 
-  -- the key of the row at i stands at i
-  sought_there : (k : K) (rows : List (Row K E)) → rising lt rows ≡ true → (i : ℕ) → i < length rows → ((d : Row K E) → (get_or rows i d).key ≡ k) → sought lt k rows ≡ Ok i
-  unfolding sought rising
-  sought_there k [] h i l e = absurd (omega (arith, l))
-  sought_there k (x ∷ xs) h zero l e =
-      let a : lt x.key k ≡ false = ap (lt x.key) (sym (e x)) ∙ o.itself x.key in
-      let b : lt k x.key ≡ false = ap (λ y. lt y x.key) (sym (e x)) ∙ o.itself x.key in
-      rw (a, b)
-  sought_there k (x ∷ xs) h (suc i) l e =
-      let h2 = and_parts (each_key (lt x.key) xs) (rising lt xs) h in
-      let a : lt x.key k ≡ true = ap (lt x.key) (sym (e x)) ∙ each_at x.key xs i x h2.0 (omega (arith, l)) in
-      rw (a, sought_there k xs h2.1 i (omega (arith, l)) e, one-add i)
+  -- no row below a key comes after one that is not
+  pub parted : (k : K) (rows : List (Row K E)) → rising lt rows ≡ true → IsPartitionedBy (λ x. lt x.key k) rows
+  parted k rows h i j d m l p =
+      ⊎_elim
+      (λ (s : i < j). o.chain (get_or rows i d).key (get_or rows j d).key k (rising_at rows h i j d s l) p)
+      (λ (g : j ≤ i). let same : i ≡ j = omega (arith, m, g) in ap (λ n. lt (get_or rows n d).key k) same ∙ p)
+      (cases_lt i j)
 
-  -- a key above the rows before i and below those from there on would stand at i
-  sought_gap : (k : K) (rows : List (Row K E)) (i : ℕ) → i ≤ length rows → ((j : ℕ) (d : Row K E) → j < i → lt (get_or rows j d).key k ≡ true) → ((j : ℕ) (d : Row K E) → i ≤ j → j < length rows → lt k (get_or rows j d).key ≡ true) → sought lt k rows ≡ Err i
+module _ {K E : Type 0} (lt : K → K → Bool) (k : K) where
+  pub sought_there : (rows : List (Row K E)) (i : ℕ) → i < length rows → ((j : ℕ) (d : Row K E) → j < i → lt (get_or rows j d).key k ≡ true) → (d : Row K E) → lt (get_or rows i d).key k ≡ false → lt k (get_or rows i d).key ≡ false → Ok i ≡ sought lt k rows
   unfolding sought
-  sought_gap k [] i l b a = ap Err (omega (arith, l))
-  sought_gap k (x ∷ xs) zero l b a =
-      let u : lt k x.key ≡ true = a 0 x (omega arith) (omega arith) in
-      let t : lt x.key k ≡ false = not_both o k x.key u in
-      rw (t, u)
-  sought_gap k (x ∷ xs) (suc i) l b a =
-      let t : lt x.key k ≡ true = b 0 x (omega arith) in
-      let s : sought lt k xs ≡ Err i = sought_gap k xs i (omega (arith, l)) (λ j d m. b (suc j) d (omega (arith, m))) (λ j d m n. a (suc j) d (omega (arith, m)) (omega (arith, n))) in
-      rw (t, s, one-add i)
+  sought_there [] i l b d e f = absurd (omega (arith, l))
+  sought_there (x ∷ xs) zero l b d e f = rw (e, f) refl
+  sought_there (x ∷ xs) (suc i) l b d e f =
+      let s : Ok i ≡ sought lt k xs = sought_there xs i (omega (arith, l)) (λ j d' m. b (suc j) d' (omega (arith, m))) d e f in
+      rw (b 0 x (omega arith), ← s, one-add i) refl
 
-module _ {K E : Type 0} {lt : K → K → Bool} (o : Order lt) {R : K → K → Ordering} (total : IsTotalOrder R) (compares : (x y : K) → is_lt (R x y) ≡ lt x y) (apart : (x y : K) → is_eq (R x y) ≡ true → x ≡ y) where
-  pub searched : (k : K) (rows : List (Row K E)) → rising lt rows ≡ true → (r : Result ℕ ℕ) → IsSearchInRange r (length rows) → IsBinarySearchResult (λ x. R x.key k) rows r → r ≡ sought lt k rows
-  searched k rows h (Ok i) l e = sym (sought_there o k rows h i l (λ d. apart (get_or rows i d).key k (ap is_eq (e d))))
-  searched k rows h (Err i) l f =
-      let sides = f (searchable_from_sorted total (λ x. x.key) rows k (λ j d _ m. compares (get_or rows (j + 1) d).key (get_or rows j d).key ∙ ap (λ n. lt (get_or rows n d).key (get_or rows j d).key) (add-one j) ∙ rising_next o rows h j d (omega (arith, m)))) in
-      sym (sought_gap o k rows i l
-      (λ j d m. sym (compares (get_or rows j d).key k) ∙ ap is_lt (sides.0 j d (omega arith) m))
-      (λ j d m n. sym (compares k (get_or rows j d).key) ∙ ap is_lt (total.antisymm k (get_or rows j d).key ∙ ap ordering_reverse (sides.1 j d m n))))
+  pub sought_gap : (rows : List (Row K E)) (i : ℕ) → i < length rows → ((j : ℕ) (d : Row K E) → j < i → lt (get_or rows j d).key k ≡ true) → (d : Row K E) → lt (get_or rows i d).key k ≡ false → lt k (get_or rows i d).key ≡ true → Err i ≡ sought lt k rows
+  unfolding sought
+  sought_gap [] i l b d e f = absurd (omega (arith, l))
+  sought_gap (x ∷ xs) zero l b d e f = rw (e, f) refl
+  sought_gap (x ∷ xs) (suc i) l b d e f =
+      let s : Err i ≡ sought lt k xs = sought_gap xs i (omega (arith, l)) (λ j d' m. b (suc j) d' (omega (arith, m))) d e f in
+      rw (b 0 x (omega arith), ← s, one-add i) refl
+
+  pub sought_end : (rows : List (Row K E)) (i : ℕ) → i ≡ length rows → ((j : ℕ) (d : Row K E) → j < i → lt (get_or rows j d).key k ≡ true) → Err i ≡ sought lt k rows
+  unfolding sought
+  sought_end [] i l b = ap Err l
+  sought_end (x ∷ xs) zero l b = absurd (omega (arith, l))
+  sought_end (x ∷ xs) (suc i) l b =
+      let s : Err i ≡ sought lt k xs = sought_end xs i (omega (arith, l)) (λ j d' m. b (suc j) d' (omega (arith, m))) in
+      rw (b 0 x (omega arith), ← s, one-add i) refl
+
+  -- the first row behind some, where it is not below the key
+  pub first_behind : (rows : List (Row K E)) (n : ℕ) (d : Row K E) → n < length rows → not_below lt k (drop n rows) ≡ true → lt (get_or rows n d).key k ≡ false
+  first_behind [] n d l h = absurd (omega (arith, l))
+  first_behind (x ∷ xs) zero d l h = not-true _ h
+  first_behind (x ∷ xs) (suc n) d l h = first_behind xs n d (omega (arith, l)) h
+
+  pub behind_first : (rows : List (Row K E)) (n : ℕ) (d : Row K E) → n < length rows → lt (get_or rows n d).key k ≡ false → not_below lt k (drop n rows) ≡ true
+  behind_first [] n d l h = absurd (omega (arith, l))
+  behind_first (x ∷ xs) zero d l h = ap not h
+  behind_first (x ∷ xs) (suc n) d l h = behind_first xs n d (omega (arith, l)) h
+
+  pub none_behind : (rows : List (Row K E)) (n : ℕ) → n ≡ length rows → not_below lt k (drop n rows) ≡ true
+  none_behind [] zero h = refl
+  none_behind [] (suc n) h = absurd (omega (arith, h))
+  none_behind (x ∷ xs) zero h = absurd (omega (arith, h))
+  none_behind (x ∷ xs) (suc n) h = none_behind xs n (omega (arith, h))
+
+-- ---- of the first n rows, behind which the next is not below the key k, the first i are below it and the others are not
+module _ {K E : Type 0} (lt : K → K → Bool) (k : K) (rows : List (Row K E)) (n : ℕ) (within : n ≤ length rows) (enough : not_below lt k (drop n rows) ≡ true)
+    (i : ℕ) (bound : i ≤ length (take n rows)) (point : IsPartitionPoint (λ x. lt x.key k ≡ true) (λ x. lt x.key k ≡ false) (take n rows) i) where
+  all_below : (j : ℕ) (d : Row K E) → j < i → lt (get_or rows j d).key k ≡ true
+  all_below j d m = ap (λ r. lt r.key k) (sym (get_or-take n rows j d (omega (arith, m, bound, length-take-le n rows within)))) ∙ point.0 j d (omega arith) m
+
+  next_not : (d : Row K E) → i < length rows → lt (get_or rows i d).key k ≡ false
+  next_not d l =
+      ⊎_elim
+      (λ (s : i < n). ap (λ r. lt r.key k) (sym (get_or-take n rows i d s)) ∙ point.1 i d (omega arith) (omega (arith, s, length-take-le n rows within)))
+      (λ (g : n ≤ i).
+      let same : i ≡ n = omega (arith, g, bound, length-take-le n rows within) in
+      ap (λ m. lt (get_or rows m d).key k) same ∙ first_behind lt k rows n d (omega (arith, l, same)) enough)
+      (cases_lt i n)
+
+  pub stands_there : (d : Row K E) → i < length rows → lt k (get_or rows i d).key ≡ false → Ok i ≡ sought lt k rows
+  stands_there d l f = sought_there lt k rows i l all_below d (next_not d l) f
+
+  pub would_stand : (d : Row K E) → i < length rows → lt k (get_or rows i d).key ≡ true → Err i ≡ sought lt k rows
+  would_stand d l f = sought_gap lt k rows i l all_below d (next_not d l) f
+
+  pub would_end : length rows ≤ i → Err i ≡ sought lt k rows
+  would_end g = sought_end lt k rows i (omega (arith, g, bound, within, length-take-le n rows within)) all_below

@@ -11,12 +11,12 @@ use Rattle.ordered_table.proofs.OnOrder.{Order, set_placed, set_without, rising_
 use Rattle.ordered_table.proofs.OnSought.{Stands, at_ok, at_err}
 
 module _ {T : Type 0} where
-  take_held : (n : ℕ) (xs : List T) → take (length (take n xs)) xs ≡ take n xs
+  pub take_held : (n : ℕ) (xs : List T) → take (length (take n xs)) xs ≡ take n xs
   take_held zero xs = refl
   take_held (suc n) [] = refl
   take_held (suc n) (x ∷ xs) = ap (λ z. x ∷ z) (take_held n xs)
 
-  first_rows : (M P rest : List T) (n : ℕ) → n ≡ length P → M ≡ P ++ rest → take n M ≡ P
+  pub first_rows : (M P rest : List T) (n : ℕ) → n ≡ length P → M ≡ P ++ rest → take n M ≡ P
   first_rows M P rest n e m = ap (take n) m ∙ take_at P rest n (sym e)
 
   -- as many rows as there are lines at most
@@ -24,7 +24,7 @@ module _ {T : Type 0} where
   rows_within M P rest n e m = omega (arith, e, ap length m, length-append P rest)
 
   -- the lines are the rows, and behind them what stood there
-  behind_rows : (L M P : List T) (n : ℕ) → n ≡ length P → M ≡ P ++ drop n L → M ≡ take n M ++ drop (length (take n M)) L
+  pub behind_rows : (L M P : List T) (n : ℕ) → n ≡ length P → M ≡ P ++ drop n L → M ≡ take n M ++ drop (length (take n M)) L
   behind_rows L M P n e m =
       let r : take n M ≡ P = first_rows M P (drop n L) n e m in
       m ∙ ap₂ (λ p k. p ++ drop k L) (sym r) (e ∙ ap length (sym r))

@@ -1,5 +1,5 @@
 -- Rows in order of their keys, and what is found, put in or taken out there. lt is the order of the keys.
-use Rattle.std.specs.Prelude.{ℕ, ◌+◌, Bool, cond, List, [], ◌∷◌, Some, None, Ok, Err, Option, Result}
+use Rattle.std.specs.Prelude.{ℕ, ◌+◌, Bool, true, cond, not, List, [], ◌∷◌, Some, None, Ok, Err, Option, Result}
 use Rattle.ordered_table.specs.declared.row.Row.{Row}
 
 -- the place n rows further on
@@ -32,6 +32,11 @@ module _ {K E : Type 0} (lt : K → K → Bool) where
   unfoldable pub sought : K → List (Row K E) → Result ℕ ℕ
   sought k [] = Err 0
   sought k (x ∷ xs) = cond (lt x.key k) (ahead 1 (sought k xs)) (cond (lt k x.key) (Err 0) (Ok 0))
+
+-- the first of the rows, if there is one, is not below the key k
+abbrev pub not_below : {K E : Type 0} → (K → K → Bool) → K → List (Row K E) → Bool
+not_below lt k [] = true
+not_below lt k (x ∷ xs) = not (lt x.key k)
 
 -- the entry of the first row whose key passes
 unfoldable pub entry_where : {K E : Type 0} → (K → Bool) → List (Row K E) → Option E

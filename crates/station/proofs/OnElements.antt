@@ -73,7 +73,7 @@ numbered_at n k e l =
     let h : element_number x ≡ suc k = order_at 1 elements k refl l ∙ one-add k in
     sym (ap element_numbered (e ∙ ap pos (sym h)) ∙ numbered_of x)
 
-bearing_numbered : (n : ℤ) (o : Option Element) → o ≡ element_numbered n → Bearing element_number n o
+pub bearing_numbered : (n : ℤ) (o : Option Element) → o ≡ element_numbered n → Bearing element_number n o
 bearing_numbered n None h = λ x e. let z : None ≡ Some x = h ∙ ap element_numbered (sym e) ∙ numbered_of x in absurd (grind arith)
 bearing_numbered n (Some x) h = sym (bears n x (sym h))
 

@@ -44,7 +44,7 @@ unfolding indicator_numbered
 indicator_of Estimated = refl
 indicator_of Measured = refl
 
-bearing_indicator : (n : ℤ) (o : Option WindIndicator) → o ≡ indicator_numbered n → Bearing indicator_number n o
+pub bearing_indicator : (n : ℤ) (o : Option WindIndicator) → o ≡ indicator_numbered n → Bearing indicator_number n o
 unfolding indicator_numbered
 bearing_indicator n None h = λ w e. let z : None ≡ Some w = h ∙ ap indicator_numbered (sym e) ∙ indicator_of w in absurd (grind arith)
 bearing_indicator n (Some w) h = sym (first_bears indicator_number n indicators w (sym h))

@@ -10,14 +10,14 @@ use Rattle.ordered_table.proofs.table.Table.put.Goals as goal
 pub invariant_of-self : goal.invariant_of-self
 invariant_of-self g c =
     let t = c.args.self.now in
-    let o = order_of g.met.K.Ord.total g.met.K.Key.compares g.met.K.Key.apart in
+    let o = order_of g.met.K.Key.itself g.met.K.Key.chain g.met.K.Key.apart in
     let p = put_over o c.args.key t.lines.now t.used t.within t.rises c.rows.result.now c.rows.ensures c.in-Ok.place c.args.entry c.in-Ok.ensures.is c.in-Ok.ensures.inside in
     record { within = p.within; rises = p.rises }
 
 pub returns-in-Ok : goal.returns-in-Ok
 returns-in-Ok g c =
     let t = c.args.self.now in
-    let o = order_of g.met.K.Ord.total g.met.K.Key.compares g.met.K.Key.apart in
+    let o = order_of g.met.K.Key.itself g.met.K.Key.chain g.met.K.Key.apart in
     let p = put_over o c.args.key t.lines.now t.used t.within t.rises c.rows.result.now c.rows.ensures c.in-Ok.place c.args.entry c.in-Ok.ensures.is c.in-Ok.ensures.inside in
     let f = ok_found g.K.Key.below c.args.key (take t.used t.lines.now) c.in-Ok.place (c.in-Ok.ensures.is ∙ ap (sought g.K.Key.below c.args.key) c.rows.ensures) in
     record { answer = rw f refl; rows = p.rows; lines = p.lines; room = search rules; lender = refl; map = λ _. p.map }
@@ -35,14 +35,14 @@ returns-then-self-room-clause-answer g c =
 pub invariant_of-self-in-Err : goal.invariant_of-self-in-Err
 invariant_of-self-in-Err g c =
     let t = c.args.self.now in
-    let o = order_of g.met.K.Ord.total g.met.K.Key.compares g.met.K.Key.apart in
+    let o = order_of g.met.K.Key.itself g.met.K.Key.chain g.met.K.Key.apart in
     let p = put_new o c.args.key t.lines.now t.used t.within t.rises c.rows.result.now c.rows.ensures c.in-Err.place c.args.entry _ c.in-Err.ensures.is c.in-Err.ensures.inside c.insert_at.ensures in
     record { within = p.within; rises = p.rises }
 
 pub returns-else-self-room : goal.returns-else-self-room
 returns-else-self-room g c =
     let t = c.args.self.now in
-    let o = order_of g.met.K.Ord.total g.met.K.Key.compares g.met.K.Key.apart in
+    let o = order_of g.met.K.Key.itself g.met.K.Key.chain g.met.K.Key.apart in
     let p = put_new o c.args.key t.lines.now t.used t.within t.rises c.rows.result.now c.rows.ensures c.in-Err.place c.args.entry _ c.in-Err.ensures.is c.in-Err.ensures.inside c.insert_at.ensures in
     let s = at_err g.K.Key.below c.args.key (take t.used t.lines.now) c.in-Err.place (c.in-Err.ensures.is ∙ ap (sought g.K.Key.below c.args.key) c.rows.ensures) in
     let n = length-take-le t.used t.lines.now t.within in
