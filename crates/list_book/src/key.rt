@@ -1,11 +1,11 @@
 // The key of a line: a pair, in order of day and then of element.
 ghost use Rattle.list_book.specs.Pairs.{pair_below, pair_cmp};
-ghost use Rattle.list_book.specs.OnPairs.{pair_order, pair_cmp_total, pair_cmp_partial, pair_cmp_equal};
+ghost use Rattle.list_book.specs.OnPairs.{pair_order, pair_cmp_total, pair_cmp_partial, pair_cmp_equal, pair_cmp_below, pair_cmp_apart};
 ghost use Rattle.std.specs.Ordering.{as_partial_cmp};
 ghost use Rattle.std.specs.Prelude.{refl};
 
 use daybook::pair::Pair;
-use ordered_table::key::Key;
+use ordered_table::key::{ComparedKey, Key};
 use std::cmp::Ordering;
 
 #[derive(Clone, Copy, PartialEq, Eq)]
@@ -56,4 +56,10 @@ impl Key for PairKey {
         let other_element = u8::from(other.pair.element());
         day < other_day || (day == other_day && element < other_element)
     }
+}
+
+impl ComparedKey for PairKey {
+    ghost compares = { pair_cmp_below };
+
+    ghost one_key = { pair_cmp_apart };
 }

@@ -1,9 +1,9 @@
 // Keys go by station, then month.
 ghost use Rattle.normals.specs.Order.{key_below};
-ghost use Rattle.normals.specs.OnKeys.{not_below_itself, below_chain, neither_below};
+ghost use Rattle.normals.specs.OnKeys.{not_below_itself, below_chain, neither_below, key_compares, key_apart};
 
 use crate::key::StationMonth;
-use ordered_table::key::Key;
+use ordered_table::key::{ComparedKey, Key};
 
 impl Key for StationMonth {
     ghost below = { key_below };
@@ -19,4 +19,10 @@ impl Key for StationMonth {
         let other_station = other.station();
         station < other_station || (station == other_station && self.month() < other.month())
     }
+}
+
+impl ComparedKey for StationMonth {
+    ghost compares = { key_compares };
+
+    ghost one_key = { key_apart };
 }
